@@ -1,0 +1,25 @@
+-- A rule that holds at each entry of a list, by one test that antt computes.
+use mathlib.Core.Path.{_≡_, _∙_, subst, sym}
+use mathlib.Core.Bool.{Bool, true, _&&_}
+use mathlib.Core.List.{List, [], _∷_}
+use Prim.Native.Nat.{ℕ, zero, suc, _+_, _<_}
+use native.Mathlib.Nat.{add-zero, zero-add, add-suc, suc-add, le-of-suc-le-suc, not-suc-le-zero}
+use lib.Dec.{T}
+use lib.Ieee.Fits.{and-l, and-r}
+use lib.ListN.{length, getD}
+
+module _ {A : Type 0} (f : ℕ → A → Bool) where
+  -- f passes at each entry of a list and its place, counted from i
+  abbrev pub every : ℕ → List A → Bool
+  every i [] = true
+  every i (x ∷ xs) = f i x && every (suc i) xs
+
+  from : (d : A) (xs : List A) (i : ℕ) → T (every i xs) → (k : ℕ) → k < length xs → T (f (i + k) (getD xs k d))
+  from d [] i t k h = absurd (not-suc-le-zero h)
+  from d (x ∷ xs) i t zero h = subst (λ (m : ℕ). T (f m x)) (sym (add-zero i)) (and-l (f i x) (every (suc i) xs) t)
+  from d (x ∷ xs) i t (suc k) h =
+      subst (λ (m : ℕ). T (f m (getD xs k d))) (suc-add i k ∙ sym (add-suc i k))
+      (from d xs (suc i) (and-r (f i x) (every (suc i) xs) t) k (le-of-suc-le-suc h))
+
+  pub at : (d : A) (xs : List A) → T (every 0 xs) → (k : ℕ) → k < length xs → T (f k (getD xs k d))
+  at d xs t k h = subst (λ (m : ℕ). T (f m (getD xs k d))) (zero-add k) (from d xs 0 t k h)

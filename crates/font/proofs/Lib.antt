@@ -1,0 +1,7 @@
+pub mod Fill
+pub mod Every
+pub mod Rules
+pub mod Rounding
+pub mod Pixel
+pub mod Columns
+pub mod Rows

@@ -1,0 +1,131 @@
+-- Laws of a picture's rows, each changed by itself, and of a stroke's rows.
+use mathlib.Core.Path.{_≡_, _∙_, refl, sym, ap, subst}
+use mathlib.Core.Bool.{_&&_}
+use mathlib.Core.List.{List, [], _++_, append-assoc}
+use Prim.Native.Nat.{ℕ, zero, suc, _+_, _-_, _*_, _≤_, _<_, min}
+use native.Mathlib.Nat.{mul-le-mul-right, zero-mul, suc-mul, zero-add, add-zero, suc-add, add-suc, add-comm}
+use native.Mathlib.Numerals.{add-one}
+use native.Mathlib.Omega.{arith}
+use borrow.Author.Tests.{le-leb, lt-leb, lt-ltb, le-ltb}
+use lib.Dec.{leb, ltb}
+use lib.ListN.{length, getD, take, drop, length-append, length-drop, take-append-drop}
+use lib.Seq.{length-take-le, take-at, drop-at, drop-drop, take-add}
+use Rattle.font.specs.Font.{bearingY}
+use Rattle.font.specs.Stroke.{origin, paintRow, strokeRow, eachRow}
+use Rattle.font.proofs.Columns.{cond-same, columns-length, columns-clear}
+
+-- row i of some rows ends within them
+pub row-in : (i rows size : ℕ) {n : ℕ} → i < rows → rows * size ≤ n → i * size + size ≤ n
+row-in i rows size h k =
+    let p : suc i * size ≤ rows * size = mul-le-mul-right size h in
+    omega (arith, suc-mul i size)
+
+pub less : {i n : ℕ} → i < n → n - (i + 1) < n - i
+less h = omega arith
+
+module _ (f : ℕ → List ℕ → List ℕ) (size : ℕ) where
+  -- the first a rows, where f keeps them
+  pub rows-skip : (a b y : ℕ) (l : List ℕ) → ((j : ℕ) (r : List ℕ) → j < a → f (y + j) r ≡ r)
+      → eachRow f size (a + b) y l ≡ take (a * size) l ++ eachRow f size b (y + a) (drop (a * size) l)
+  unfolding eachRow
+  rows-skip zero b y l keep = rw (zero-mul, zero-add, add-zero) refl
+  rows-skip (suc a) b y l keep =
+      let first : f y (take size l) ≡ take size l = rw add-zero at (keep 0 (take size l) (omega arith)) in
+      let next : suc y + a ≡ y + suc a = omega arith in
+      let rest = rows-skip a b (suc y) (drop size l)
+      (λ j r h. subst (λ (m : ℕ). f m r ≡ r) (add-suc y j ∙ sym (suc-add y j)) (keep (suc j) r (omega arith))) in
+      let wide : suc a * size ≡ size + a * size = suc-mul a size ∙ add-comm (a * size) size in
+      rw (suc-add, first, rest, wide, take-add, append-assoc, drop-drop (a * size) size l, next)
+
+  -- all rows, where f keeps them
+  pub rows-kept : (n y : ℕ) (l : List ℕ) → ((j : ℕ) (r : List ℕ) → j < n → f (y + j) r ≡ r) → eachRow f size n y l ≡ l
+  unfolding eachRow
+  rows-kept n y l keep =
+      ap (λ (m : ℕ). eachRow f size m y l) (sym (add-zero n)) ∙ rows-skip n 0 y l keep ∙ take-append-drop (n * size) l
+
+  -- a turn of a loop over the rows: the a bytes before a row are done, the row is lent and comes back changed
+  pub rows-turn : (n y a : ℕ) (l row whole : List ℕ) → a + size ≤ length l → length row ≡ size → row ≡ f y (take size (drop a l))
+      → whole ≡ take a l ++ eachRow f size (suc n) y (drop a l)
+      → let l′ = take a l ++ (row ++ drop size (drop a l)) in
+      whole ≡ take (a + size) l′ ++ eachRow f size n (suc y) (drop (a + size) l′)
+  unfolding eachRow
+  rows-turn n y a l row whole h k e w =
+      let front : length (take a l ++ row) ≡ a + size =
+      length-append (take a l) row ∙ rw (length-take-le a l (omega arith), k) refl in
+      rw (
+        ← (append-assoc (take a l) row (drop size (drop a l))),
+        take-at (take a l ++ row) (drop size (drop a l)) (a + size) front,
+        drop-at (take a l ++ row) (drop size (drop a l)) (a + size) front,
+        append-assoc,
+        e,
+      ) w
+
+-- the cases of a stroke's row
+module _ (glyph offsets k : List ℕ) (x base y : ℕ) (row : List ℕ) where
+  pub stroke-on : (r : ℕ) → r < 16 → origin + y ≡ base - bearingY + r
+      → strokeRow glyph offsets k x base y row ≡ paintRow k (getD glyph r 0) (x + getD offsets r 0 - 8) row
+  unfolding strokeRow
+  stroke-on r h e =
+      let at : origin + y - (base - bearingY) ≡ r = omega arith in
+      simp (le-leb (base - bearingY) (origin + y) (omega arith), at, lt-ltb r 16 h)
+
+  pub stroke-clear : getD k 3 0 ≡ 0 → strokeRow glyph offsets k x base y row ≡ row
+  unfolding strokeRow
+  stroke-clear clear =
+      let r = origin + y - (base - bearingY) in
+      rw (columns-clear k clear (getD glyph r 0) (x + getD offsets r 0 - 8) 8 row) (cond-same (leb (base - bearingY) (origin + y) && ltb r 16) row)
+
+  pub stroke-above : origin + y < base - bearingY → strokeRow glyph offsets k x base y row ≡ row
+  unfolding strokeRow
+  stroke-above h = simp (lt-leb (base - bearingY) (origin + y) h)
+
+  pub stroke-below : base - bearingY + 16 ≤ origin + y → strokeRow glyph offsets k x base y row ≡ row
+  unfolding strokeRow
+  stroke-below h =
+      simp (le-leb (base - bearingY) (origin + y) (omega arith), le-ltb (origin + y - (base - bearingY)) 16 (omega arith))
+
+-- A loop over the rows of a stroke: what a stroke leaves of the whole is the rows before row i as they are, and the stroke on the rows from i on.
+module _ (glyph offsets k : List ℕ) (x base size rows first : ℕ) (whole : List ℕ) where
+  abbrev stroke : ℕ → List ℕ → List ℕ
+  stroke = strokeRow glyph offsets k x base
+
+  abbrev pub Left : ℕ → List ℕ → Type 0
+  Left i part =
+      eachRow stroke size rows first whole
+      ≡ take (i * size) part ++ eachRow stroke size (rows - i) (first + i) (drop (i * size) part)
+
+  -- the rows above the glyph
+  pub left-start : (i : ℕ) → i ≤ rows → i ≤ base - bearingY - (origin + first) → Left i whole
+  left-start i h j =
+      let e : rows ≡ i + (rows - i) = omega arith in
+      ap (λ (n : ℕ). eachRow stroke size n first whole) e
+      ∙ rows-skip stroke size i (rows - i) first whole (λ d row b. stroke-above glyph offsets k x base (first + d) row (omega arith))
+
+  -- row i, on which the glyph's row r falls
+  pub left-turn : (i r n : ℕ) (part row : List ℕ) → i < rows → r < 16 → origin + (first + i) ≡ base - bearingY + r
+      → i * size + size ≤ length part → n ≡ size
+      → row ≡ paintRow k (getD glyph r 0) (x + getD offsets r 0 - 8) (take n (drop (i * size) part)) → Left i part
+      → Left (i + 1) (take (i * size) part ++ (row ++ drop n (drop (i * size) part)))
+  left-turn i r n part row h b e fits q p w =
+      let old = take size (drop (i * size) part) in
+      let m : rows - i ≡ suc (rows - (i + 1)) = omega arith in
+      let v : (i + 1) * size ≡ i * size + size = ap (λ (j : ℕ). j * size) (add-one i) ∙ suc-mul i size in
+      let y : first + (i + 1) ≡ suc (first + i) = omega arith in
+      let p′ : row ≡ paintRow k (getD glyph r 0) (x + getD offsets r 0 - 8) old = rw q at p in
+      let long : length row ≡ size =
+      ap length p′ ∙ columns-length k (getD glyph r 0) (x + getD offsets r 0 - 8) 8 old
+      ∙ length-take-le size (drop (i * size) part) (rw length-drop (omega arith)) in
+      rw (v, y, q)
+      (rows-turn stroke size (rows - (i + 1)) (first + i) (i * size) part row (eachRow stroke size rows first whole) fits long
+      (p′ ∙ sym (stroke-on glyph offsets k x base (first + i) old r b e)) (rw m at w))
+
+  -- the rows below the glyph
+  pub left-end : (i : ℕ) (part : List ℕ) → min rows (base - bearingY + 16 - (origin + first)) ≤ i → Left i part
+      → part ≡ eachRow stroke size rows first whole
+  left-end i part h w =
+      sym
+      (w
+      ∙ ap (λ (l : List ℕ). take (i * size) part ++ l)
+      (rows-kept stroke size (rows - i) (first + i) (drop (i * size) part)
+      (λ d row b. stroke-below glyph offsets k x base (first + i + d) row (omega arith)))
+      ∙ take-append-drop (i * size) part)

@@ -1,0 +1,15 @@
+-- `blend_alpha` meets its contract.
+use mathlib.Core.Path.{_∙_}
+use Rattle.font.proofs.Pixel.{alpha-byte}
+use borrow.Author.Needs.{needs}
+use Rattle.font.proofs.paint.blend_alpha.Statement.{statement}
+use Rattle.font.proofs.paint.blend_alpha.Tie as tie
+
+mix-requires : tie.Need-mix-requires
+mix-requires c κs = search needs
+
+returns : tie.Need-returns
+returns c = c .mix .ensures ∙ alpha-byte (c .before .args .a) (c .before .args .d)
+
+pub blend-alpha-spec : {M : Type 1} → statement M
+blend-alpha-spec = tie.close (tie.spec mix-requires returns)

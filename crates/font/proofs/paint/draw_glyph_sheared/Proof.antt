@@ -1,0 +1,58 @@
+-- `draw_glyph_sheared` meets its contract.
+use mathlib.Core.Path.{_≡_, sym}
+use Prim.Native.Nat.{_+_, _*_}
+use lib.ListN.{length}
+use Rattle.font.specs.Stroke.{strokeRow}
+use Rattle.font.proofs.Columns.{four-bytes}
+use Rattle.font.proofs.Rows.{rows-kept, stroke-clear}
+use borrow.Author.Needs.{needs}
+use Rattle.font.proofs.paint.draw_glyph_sheared.Statement.{statement}
+use Rattle.font.proofs.paint.draw_glyph_sheared.Tie as tie
+
+array-read-if1 : tie.Need-array-read-if1
+array-read-if1 c = search needs
+
+returns : tie.Need-returns
+returns c =
+    let a = c .before .before .before .args in
+    sym
+    (rows-kept (strokeRow (a .glyph .now) (a .offsets .now) (a .pen .color) (a .x) (a .y)) (4 * a .width) (a .rows) (a .first) (a .part .now)
+    (λ j row h. stroke-clear (a .glyph .now) (a .offsets .now) (a .pen .color) (a .x) (a .y) (a .first + j) row (c .if1 .taken)))
+
+array-read-draw-rows : tie.Need-array-read-draw-rows
+array-read-draw-rows c = search needs
+
+array-read-draw-rows-2 : tie.Need-array-read-draw-rows-2
+array-read-draw-rows-2 c = search needs
+
+array-read-draw-rows-3 : tie.Need-array-read-draw-rows-3
+array-read-draw-rows-3 c = search needs
+
+array-read-draw-rows-4 : tie.Need-array-read-draw-rows-4
+array-read-draw-rows-4 c = search needs
+
+draw-rows-requires : tie.Need-draw-rows-requires
+draw-rows-requires c κs = search needs
+
+same-length : tie.Need-same-length
+same-length c = search needs
+
+returns-2 : tie.Need-returns-2
+returns-2 c =
+    let k = c .before .before .before .before .before .before .before .args .pen .color in
+    let four : length k ≡ 4 = search needs in
+    rw (← (four-bytes k four)) (c .before .before .draw-rows .ensures)
+
+pub draw-glyph-sheared-spec : {M : Type 1} → statement M
+draw-glyph-sheared-spec =
+    tie.close
+    (tie.spec
+    array-read-if1
+    returns
+    array-read-draw-rows
+    array-read-draw-rows-2
+    array-read-draw-rows-3
+    array-read-draw-rows-4
+    draw-rows-requires
+    same-length
+    returns-2)

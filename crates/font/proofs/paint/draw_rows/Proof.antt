@@ -1,0 +1,144 @@
+-- `draw_rows` meets its contract.
+use mathlib.Core.Path.{_≡_, _∙_, refl}
+use mathlib.Core.List.{[], _∷_}
+use Prim.Native.Nat.{_+_, _-_, _*_, _≤_, _<_, min}
+use native.Mathlib.Omega.{arith}
+use lib.ListN.{length}
+use borrow.Author.Needs.{needs}
+use borrow.Rule.Slice.PartMut.{same-len-mid}
+use Rattle.font.specs.Stroke.{origin}
+use Rattle.font.proofs.Rows.{row-in, less, Left, left-start, left-turn, left-end}
+use Rattle.font.proofs.paint.draw_rows.Statement.{statement}
+use Rattle.font.proofs.paint.draw_rows.Tie as tie
+
+abbrev Inv-loop : tie.InvT-loop
+Inv-loop part₀ width rows first glyph offsets x y red green blue alpha size top start i₀ end part i =
+    (min rows (top - start) ≤ i)
+    × (i ≤ rows)
+    × (end ≡ min rows (top + 16 - start))
+    × (length part ≡ length part₀)
+    × Left glyph offsets (red ∷ green ∷ blue ∷ alpha ∷ []) x y size rows first part₀ i part
+
+abbrev μ-loop : tie.MeasureT-loop
+μ-loop part₀ width rows first glyph offsets x y red green blue alpha size top start i₀ end part i = end - i
+
+mul-size : tie.Need-mul-size Inv-loop μ-loop
+mul-size c = search needs
+
+sub-top : tie.Need-sub-top Inv-loop μ-loop
+sub-top c = search needs
+
+add-start : tie.Need-add-start Inv-loop μ-loop
+add-start c = search needs
+
+rows-above-requires : tie.Need-rows-above-requires Inv-loop μ-loop
+rows-above-requires c κs = search needs
+
+add-rows-above : tie.Need-add-rows-above Inv-loop μ-loop
+add-rows-above c = search needs
+
+rows-above-requires-2 : tie.Need-rows-above-requires-2 Inv-loop μ-loop
+rows-above-requires-2 c κs = search needs
+
+loop-holds : tie.Need-loop-holds Inv-loop μ-loop
+loop-holds c =
+    let a = c .before .before .before .args in
+    let i = c .before .rows-above in (
+      omega arith,
+      omega arith,
+      c .rows-above2 .ensures,
+      refl,
+      left-start (a .glyph .now) (a .offsets .now) _ (a .x) (a .y) (4 * a .width) (a .rows) (a .first) (a .part .now) (i .result)
+          (omega arith) (omega arith),
+    )
+
+-- row i lies in the part
+fits : (c : tie.In-loop Inv-loop μ-loop)
+    → c .before .loop .i * (4 * c .before .before .before .before .before .args .width) + 4 * c .before .before .before .before .before .args .width
+    ≤ length (c .before .loop .part)
+fits c =
+    let start = c .before .before .before .before .before in
+    row-in (c .before .loop .i) (start .args .rows) (4 * start .args .width) (omega arith) (omega arith)
+
+mul-a : tie.Need-mul-a Inv-loop μ-loop
+mul-a c = omega (arith, fits c)
+
+add-e : tie.Need-add-e Inv-loop μ-loop
+add-e c = omega (arith, fits c)
+
+add-r : tie.Need-add-r Inv-loop μ-loop
+add-r c = search needs
+
+sub-r : tie.Need-sub-r Inv-loop μ-loop
+sub-r c = search needs
+
+sub-draw-row : tie.Need-sub-draw-row Inv-loop μ-loop
+sub-draw-row c = search needs
+
+part-draw-row-start : tie.Need-part-draw-row-start Inv-loop μ-loop
+part-draw-row-start c = search needs
+
+part-draw-row-end : tie.Need-part-draw-row-end Inv-loop μ-loop
+part-draw-row-end c = fits c
+
+draw-row-requires : tie.Need-draw-row-requires Inv-loop μ-loop
+draw-row-requires c κs = search needs
+
+add-i : tie.Need-add-i Inv-loop μ-loop
+add-i c = search needs
+
+loop-less : tie.Need-loop-less Inv-loop μ-loop
+loop-less c = less (c .before .before .before .before .loop-test .taken)
+
+loop-again : tie.Need-loop-again Inv-loop μ-loop
+loop-again c =
+    let turn = c .before .before .before .before in
+    let a = turn .before .before .before .before .before .args in
+    let l = turn .before .loop in
+    let size = 4 * a .width in
+    let e : l .i * size + size - l .i * size ≡ size = omega arith in (
+      omega arith,
+      omega arith,
+      l .inv .2,
+      same-len-mid (l .i * size) (l .i * size + size - l .i * size) (l .part) (c .before .before .draw-row .last .0) (c .before .before .draw-row .kept .0) ∙ l .inv .3,
+      left-turn (a .glyph .now) (a .offsets .now) _ (a .x) (a .y) size (a .rows) (a .first) (a .part .now) (l .i)
+          (origin + a .first + l .i - (a .y - 12)) (l .i * size + size - l .i * size) (l .part) (c .before .before .draw-row .last .0)
+          (omega arith) (omega arith) (omega arith) (fits turn) e (c .before .before .draw-row .ensures) (l .inv .4),
+    )
+
+same-length : tie.Need-same-length Inv-loop μ-loop
+same-length c = search needs
+
+returns : tie.Need-returns Inv-loop μ-loop
+returns c =
+    let a = c .before .before .before .before .before .args in
+    let l = c .before .loop in
+    left-end (a .glyph .now) (a .offsets .now) _ (a .x) (a .y) (4 * a .width) (a .rows) (a .first) (a .part .now) (l .i) (l .part)
+    (omega arith) (l .inv .4)
+
+pub draw-rows-spec : {M : Type 1} → statement M
+draw-rows-spec =
+    tie.close
+    (tie.spec
+    Inv-loop
+    μ-loop
+    mul-size
+    sub-top
+    add-start
+    rows-above-requires
+    add-rows-above
+    rows-above-requires-2
+    loop-holds
+    mul-a
+    add-e
+    add-r
+    sub-r
+    sub-draw-row
+    part-draw-row-start
+    part-draw-row-end
+    draw-row-requires
+    add-i
+    loop-less
+    loop-again
+    same-length
+    returns)

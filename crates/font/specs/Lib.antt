@@ -1,0 +1,8 @@
+-- The definitions in reading order, then the promises that the crate's functions make to each other.
+pub mod Glyphs
+pub mod Font
+pub mod Slant
+pub mod Blend
+pub mod Stroke
+pub mod Shear
+pub mod Places

@@ -1,0 +1,51 @@
+-- Promises: the slant as the code works it out, in f32. `Slant` says what comes out of it; no reader of the deposit needs this file.
+use mathlib.Core.Path.{_≡_}
+use mathlib.Core.Bool.{Bool, true, false}
+use mathlib.Core.List.{List}
+use Prim.Native.Nat.{ℕ, _+_, _-_, _*_, _<_}
+use lib.IntN.{pos, _-ℤ_}
+use lib.Ieee.{Float, nan, inf, fin, binary32, ofInt, lt, mul, div, up, down}
+use Rattle.font.specs.Font.{cellW, cellH, bearingY}
+use Rattle.font.specs.Slant.{nearest}
+use Rattle.font.specs.declared.Pen.{Pen}
+
+abbrev pub float : ℕ → Float
+float n = ofInt binary32 (pos n)
+
+-- the shear of a pen: cell_w / 4 where it is italic, else 0
+unfoldable pub shearOf : Bool → Float
+unfolding ofInt div
+shearOf true = div binary32 (float cellW) (float 4)
+shearOf false = float 0
+
+-- a pen of a color, bold or not, italic or not
+abbrev pub penOf : List ℕ → Bool → Bool → Pen
+penOf k b italic = record { color = k; bold = b; shear = shearOf italic }
+
+-- the shear x is an italic pen's
+unfoldable pub leans : Float → Bool
+unfolding ofInt lt
+leans x = lt (float 0) x
+
+-- x is the shear of one of the two pens
+pub record Shear (x : Float) : Type 0 where
+  pub is : x ≡ shearOf (leans x)
+
+-- what row r of a pen moves by before it is rounded: product before quotient
+unfoldable pub moved : Bool → ℕ → Float
+unfolding ofInt mul div shearOf
+moved italic r = div binary32 (mul binary32 (ofInt binary32 (pos bearingY -ℤ pos r)) (shearOf italic)) (float cellH)
+
+-- x is what one of the sixteen rows of one of the two pens moves by
+pub record Moved (x : Float) : Type 0 where
+  pub italic : Bool
+  pub row : ℕ
+  pub below : row < cellH
+  pub is : x ≡ moved italic row
+
+-- 8 more than x to the nearest whole number, halves away from zero; fin s m e is m · 2^e, negative where s is true
+unfoldable pub rounded : Float → ℕ
+rounded nan = 8
+rounded (inf s) = 8
+rounded (fin false m e) = 8 + nearest (m * up e) (down e)
+rounded (fin true m e) = 8 - nearest (m * up e) (down e)

@@ -1,0 +1,139 @@
+// The bitmap font: two glyph tables, the pen, and the painter of one stroke.
+// Carried over from src/font.rs of oxideav-subtitle; what the crate means is in specs/.
+mod paint;
+mod tables;
+
+pub use paint::ORIGIN;
+pub use paint::draw_glyph_sheared;
+ghost use mathlib.Core.Path.{_≡_};
+ghost use mathlib.Core.Bool.{true, false};
+ghost use Prim.Native.Nat.{_<_};
+ghost use Rattle.font.specs.Font.{fontOf, tableOf, glyphRows};
+ghost use Rattle.font.specs.Slant.{rowOffset, rowOffsets};
+ghost use Rattle.font.specs.Shear.{penOf, leans, Shear, Moved, rounded};
+
+// A font: its metrics in pixels, and the bold mark that picks its table. The base line lies
+// `bearing_y` rows below a cell's top.
+pub struct BitmapFont {
+    pub cell_w: u32,
+    pub cell_h: u32,
+    pub bearing_y: u32,
+    pub bold: bool,
+}
+
+impl BitmapFont {
+    pub const CELL_W: u32 = 8;
+
+    pub const CELL_H: u32 = 16;
+
+    pub const BEARING_Y: u32 = 12;
+
+    pub fn default_regular() -> BitmapFont
+        ensures { λ r. ⌜ r ≡ fontOf false ⌝ }
+    {
+        BitmapFont {
+            cell_w: Self::CELL_W,
+            cell_h: Self::CELL_H,
+            bearing_y: Self::BEARING_Y,
+            bold: false,
+        }
+    }
+
+    pub fn default_bold() -> BitmapFont
+        ensures { λ r. ⌜ r ≡ fontOf true ⌝ }
+    {
+        BitmapFont {
+            cell_w: Self::CELL_W,
+            cell_h: Self::CELL_H,
+            bearing_y: Self::BEARING_Y,
+            bold: true,
+        }
+    }
+
+    // The font's rows. Each call lays the whole table out anew, so a caller takes it once and
+    // lends it.
+    pub fn table(self) -> [u8; 4096]
+        ensures { λ r. ⌜ r ≡ tableOf (self .bold) ⌝ }
+    {
+        if self.bold {
+            tables::BOLD_TABLE
+        } else {
+            tables::REGULAR_TABLE
+        }
+    }
+}
+
+// A glyph's rows out of a font's table.
+pub fn glyph_rows(table: &[u8; 4096], code: u32) -> [u8; 16]
+    ensures { λ r. ⌜ r ≡ glyphRows (now (table .entry)) code ⌝ }
+{
+    if 256 <= code {
+        return tables::MISSING_GLYPH;
+    }
+    let at = code as usize * 16;
+    let mut rows = [0u8; 16];
+    let mut r = 0;
+    while r < 16 {
+        rows[r] = table[at + r];
+        r += 1;
+    }
+    rows
+}
+
+// What a stroke is drawn with.
+pub struct Pen {
+    pub color: [u8; 4],
+    pub bold: bool,
+    pub shear: f32,
+}
+
+impl Pen {
+    pub fn new(color: [u8; 4], bold: bool, italic: bool) -> Pen
+        ensures { λ r. ⌜ r ≡ penOf color bold italic ⌝ }
+    {
+        let shear = if italic {
+            BitmapFont::CELL_W as f32 / 4.0
+        } else {
+            0.0
+        };
+        Pen { color, bold, shear }
+    }
+
+    // How far the pen moves each row of a glyph to the right, plus 8: worked out once for a style
+    // and lent to its strokes.
+    pub fn row_offsets(self) -> [u8; 16]
+        requires { ⌜ Shear (self .shear) ⌝ }
+        ensures { λ r. ⌜ r ≡ rowOffsets (leans (self .shear)) ⌝ }
+    {
+        let shear = self.shear;
+        let mut offsets = [0u8; 16];
+        let mut r = 0;
+        while r < 16 {
+            offsets[r] = row_offset(shear, r);
+            r += 1;
+        }
+        offsets
+    }
+}
+
+// How far row r is moved to the right, plus 8.
+fn row_offset(shear: f32, r: usize) -> u8
+    requires { ⌜ Shear shear × (r < 16) ⌝ }
+    ensures { λ x. ⌜ x ≡ rowOffset (leans shear) r ⌝ }
+{
+    let from_baseline = 12i16 - r as i16;
+    round(from_baseline as f32 * shear / 16.0)
+}
+
+// x to the nearest whole number, halves away from zero, plus 8. Twice x is cut and halved again:
+// x + 0.5 would round 0.49999997 up.
+fn round(x: f32) -> u8
+    requires { ⌜ Moved x ⌝ }
+    ensures { λ r. ⌜ r ≡ rounded x ⌝ }
+{
+    if x < 0.0 {
+        (8 - (std::num::truncating_f32_to_u64(-x * 2.0) + 1) / 2) as u8
+    } else {
+        (8 + (std::num::truncating_f32_to_u64(x * 2.0) + 1) / 2) as u8
+    }
+}

@@ -1,0 +1,273 @@
+// Blending, and painting one stroke into a picture's rows.
+//
+// A pixel has no branch and takes its color as four bytes, so that the eight pixels of a glyph's
+// row become vector code.
+ghost use mathlib.Core.Path.{_≡_};
+ghost use mathlib.Core.Bool.{cond};
+ghost use mathlib.Core.List.{[], _∷_};
+ghost use Prim.Native.Nat.{_+_, _-_, _*_, _≤_, _<_, min};
+ghost use lib.ListN.{length, getD};
+ghost use Rattle.font.specs.Blend.{blendByte, blendAlpha, blendPixel};
+ghost use Rattle.font.specs.Stroke.{paintColumn, paintBit, paintRow, strokeRow, eachRow};
+ghost use Rattle.font.specs.Places.{Inside, Part};
+use crate::Pen;
+
+// The place of the picture's column 0 and row 0.
+pub const ORIGIN: usize = 0x400_0000;
+
+// The smaller of 255 and x.
+fn cap(x: u16) -> u16
+    ensures { λ r. ⌜ r ≡ min 255 x ⌝ }
+{
+    if x < 255 { x } else { 255 }
+}
+
+// A byte s with alpha a over the picture's byte d, at most 255. The cap is alpha's; with it here
+// all four bytes of a pixel take the same operations, as vector code asks.
+fn mix(s: u8, a: u8, d: u8) -> u8
+    ensures { λ r. ⌜ r ≡ min 255 (blendByte s a d) ⌝ }
+{
+    cap((s as u16 * a as u16 + d as u16 * (255 - a) as u16 + 127) / 255) as u8
+}
+
+// The color byte s with alpha a over the picture's byte d.
+fn blend_byte(s: u8, a: u8, d: u8) -> u8
+    ensures { λ r. ⌜ r ≡ blendByte s a d ⌝ }
+{
+    mix(s, a, d)
+}
+
+// Alpha a over the picture's alpha d, mixed as a byte of 255 is.
+fn blend_alpha(a: u8, d: u8) -> u8
+    ensures { λ r. ⌜ r ≡ blendAlpha a d ⌝ }
+{
+    mix(255, a, d)
+}
+
+fn pick(test: bool, a: u8, b: u8) -> u8
+    ensures { λ r. ⌜ r ≡ cond test a b ⌝ }
+{
+    if test { a } else { b }
+}
+
+// Blends a color into the pixel whose four bytes begin at `at`, or, where it is not lit, writes the
+// pixel as it was.
+fn blend_pixel(row: &mut [u8], at: usize, lit: bool, red: u8, green: u8, blue: u8, alpha: u8)
+    requires { ⌜ at + 4 ≤ length (now row) ⌝ }
+    ensures { λ _. ⌜ now (row .exit)
+        ≡ cond lit (blendPixel (red ∷ green ∷ blue ∷ alpha ∷ []) at (now (row .entry))) (now (row .entry)) ⌝ }
+{
+    let d0 = row[at];
+    let d1 = row[at + 1];
+    let d2 = row[at + 2];
+    let d3 = row[at + 3];
+    let e0 = blend_byte(red, alpha, d0);
+    let e1 = blend_byte(green, alpha, d1);
+    let e2 = blend_byte(blue, alpha, d2);
+    let e3 = blend_alpha(alpha, d3);
+    row[at] = pick(lit, e0, d0);
+    row[at + 1] = pick(lit, e1, d1);
+    row[at + 2] = pick(lit, e2, d2);
+    row[at + 3] = pick(lit, e3, d3);
+}
+
+// Paints column c of a glyph's row whose eight columns, the first at place x, all lie on the
+// picture's row.
+fn paint_bit(row: &mut [u8], x: usize, bits: u8, c: usize, red: u8, green: u8, blue: u8, alpha: u8)
+    requires { ⌜ Inside (length (now row)) x × (c < 8) ⌝ }
+    ensures { λ _. ⌜ now (row .exit) ≡ paintBit (red ∷ green ∷ blue ∷ alpha ∷ []) bits x c (now (row .entry)) ⌝ }
+{
+    let lit = (bits >> (7 - c)) % 2 == 1;
+    blend_pixel(row, 4 * (x - ORIGIN) + 4 * c, lit, red, green, blue, alpha);
+}
+
+// Paints columns c and c + 1.
+fn paint_pair(row: &mut [u8], x: usize, bits: u8, c: usize, red: u8, green: u8, blue: u8, alpha: u8)
+    requires { ⌜ Inside (length (now row)) x × (c < 7) ⌝ }
+    ensures { λ _. ⌜ now (row .exit)
+        ≡ paintBit (red ∷ green ∷ blue ∷ alpha ∷ []) bits x (c + 1)
+        (paintBit (red ∷ green ∷ blue ∷ alpha ∷ []) bits x c (now (row .entry))) ⌝ }
+{
+    paint_bit(row, x, bits, c, red, green, blue, alpha);
+    paint_bit(row, x, bits, c + 1, red, green, blue, alpha);
+}
+
+// Paints a glyph's row that lies whole on the picture's row. The columns are written out, since the
+// compiler does not unroll a loop of this size, and then does not vectorise it.
+fn paint_inside(row: &mut [u8], x: usize, bits: u8, red: u8, green: u8, blue: u8, alpha: u8)
+    requires { ⌜ Inside (length (now row)) x ⌝ }
+    ensures { λ _. ⌜ now (row .exit) ≡ paintRow (red ∷ green ∷ blue ∷ alpha ∷ []) bits x (now (row .entry)) ⌝ }
+{
+    paint_pair(row, x, bits, 0, red, green, blue, alpha);
+    paint_pair(row, x, bits, 2, red, green, blue, alpha);
+    paint_pair(row, x, bits, 4, red, green, blue, alpha);
+    paint_pair(row, x, bits, 6, red, green, blue, alpha);
+}
+
+// Paints a column, at place x, where it lies on the picture's row.
+fn paint_column(row: &mut [u8], x: usize, lit: bool, red: u8, green: u8, blue: u8, alpha: u8)
+    requires { ⌜ x < 0x1000_0000 ⌝ }
+    ensures { λ _. ⌜ now (row .exit)
+        ≡ cond lit (paintColumn (red ∷ green ∷ blue ∷ alpha ∷ []) x (now (row .entry))) (now (row .entry)) ⌝ }
+{
+    if x < ORIGIN {
+        return;
+    }
+    let at = 4 * (x - ORIGIN);
+    if row.len() < at + 4 {
+        return;
+    }
+    blend_pixel(row, at, lit, red, green, blue, alpha);
+}
+
+// Paints a glyph's row column by column, the first at place x.
+fn paint_clipped(row: &mut [u8], x: usize, bits: u8, red: u8, green: u8, blue: u8, alpha: u8)
+    requires { ⌜ x < 0x800_0100 ⌝ }
+    ensures { λ _. ⌜ now (row .exit) ≡ paintRow (red ∷ green ∷ blue ∷ alpha ∷ []) bits x (now (row .entry)) ⌝ }
+{
+    let mut col = 0;
+    while col < 8 {
+        let lit = (bits >> (7 - col)) % 2 == 1;
+        paint_column(row, x + col, lit, red, green, blue, alpha);
+        col += 1;
+    }
+}
+
+// Paints a glyph's row, its first column at place x. A blank row changes nothing.
+fn paint_row(row: &mut [u8], x: usize, bits: u8, red: u8, green: u8, blue: u8, alpha: u8)
+    requires { ⌜ x < 0x800_0100 ⌝ }
+    ensures { λ _. ⌜ now (row .exit) ≡ paintRow (red ∷ green ∷ blue ∷ alpha ∷ []) bits x (now (row .entry)) ⌝ }
+{
+    if bits == 0 {
+        return;
+    }
+    if x < ORIGIN {
+        paint_clipped(row, x, bits, red, green, blue, alpha);
+        return;
+    }
+    if row.len() < 4 * (x - ORIGIN) + 32 {
+        paint_clipped(row, x, bits, red, green, blue, alpha);
+        return;
+    }
+    paint_inside(row, x, bits, red, green, blue, alpha);
+}
+
+fn wide(x: u8) -> usize
+    ensures { λ r. ⌜ (r ≡ x) × (r < 256) ⌝ }
+{
+    x as usize
+}
+
+// Paints row r of a glyph, moved by its offset, into the picture's row on which it falls.
+fn draw_row(
+    row: &mut [u8],
+    glyph: &[u8; 16],
+    offsets: &[u8; 16],
+    r: usize,
+    x: usize,
+    red: u8,
+    green: u8,
+    blue: u8,
+    alpha: u8,
+)
+    requires { ⌜ (r < 16) × (8 ≤ x) × (x < 0x800_0000) ⌝ }
+    ensures { λ _. ⌜ now (row .exit)
+        ≡ paintRow (red ∷ green ∷ blue ∷ alpha ∷ []) (getD (now (glyph .entry)) r 0)
+        (x + getD (now (offsets .entry)) r 0 - 8) (now (row .entry)) ⌝ }
+{
+    let offset = wide(offsets[r]);
+    paint_row(row, x + offset - 8, glyph[r], red, green, blue, alpha);
+}
+
+// How many of `rows` rows, the first at place `first`, lie above place y.
+fn rows_above(rows: usize, first: usize, y: usize) -> usize
+    ensures { λ r. ⌜ r ≡ min rows (y - first) ⌝ }
+{
+    if y <= first {
+        return 0;
+    }
+    if rows < y - first { rows } else { y - first }
+}
+
+// Draws a glyph, row by row, with the four bytes of a color.
+fn draw_rows(
+    part: &mut [u8],
+    width: usize,
+    rows: usize,
+    first: usize,
+    glyph: &[u8; 16],
+    offsets: &[u8; 16],
+    x: usize,
+    y: usize,
+    red: u8,
+    green: u8,
+    blue: u8,
+    alpha: u8,
+)
+    requires { ⌜ Part (length (now part)) width rows first x y ⌝ }
+    ensures { λ _. ⌜ now (part .exit)
+        ≡ eachRow (strokeRow (now (glyph .entry)) (now (offsets .entry)) (red ∷ green ∷ blue ∷ alpha ∷ []) x y)
+        (4 * width) rows first (now (part .entry)) ⌝ }
+{
+    let size = 4 * width;
+    let top = y - 12;
+    let start = ORIGIN + first;
+    let mut i = rows_above(rows, start, top);
+    let end = rows_above(rows, start, top + 16);
+    while i < end {
+        let a = i * size;
+        let e = a + size;
+        let r = start + i - top;
+        draw_row(
+            &mut part[a..e],
+            glyph,
+            offsets,
+            r,
+            x,
+            red,
+            green,
+            blue,
+            alpha,
+        );
+        i += 1;
+    }
+}
+
+// Draws a glyph into a part of the picture: `rows` rows of `width` pixels, the first of which is
+// the picture's row `first`. The glyph's left column is at place x and its base line at place y.
+// A clear color draws nothing.
+pub fn draw_glyph_sheared(
+    part: &mut [u8],
+    width: usize,
+    rows: usize,
+    first: usize,
+    glyph: &[u8; 16],
+    offsets: &[u8; 16],
+    x: usize,
+    y: usize,
+    pen: Pen,
+)
+    requires { ⌜ Part (length (now part)) width rows first x y ⌝ }
+    ensures { λ _. ⌜ now (part .exit)
+        ≡ eachRow (strokeRow (now (glyph .entry)) (now (offsets .entry)) (pen .color) x y)
+        (4 * width) rows first (now (part .entry)) ⌝ }
+{
+    let color = pen.color;
+    if color[3] == 0 {
+        return;
+    }
+    draw_rows(
+        part,
+        width,
+        rows,
+        first,
+        glyph,
+        offsets,
+        x,
+        y,
+        color[0],
+        color[1],
+        color[2],
+        color[3],
+    );
+}

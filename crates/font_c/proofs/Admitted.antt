@@ -1,0 +1,37 @@
+-- What is admitted is what the painter asks.
+use mathlib.Core.Path.{_≡_, sym, subst}
+use mathlib.Core.Bool.{Bool, true, _&&_}
+use Prim.Native.Nat.{ℕ, _*_, _/_, _≤_, _<_}
+use native.Mathlib.Omega.{arith}
+use lib.Dec.{T, leb, ltb, leb→le, ltb→lt}
+use lib.Ieee.Fits.{and-l, and-r}
+use Rattle.font.specs.Places.{Part}
+use Rattle.font.specs.Stroke.{origin}
+use Rattle.font_c.specs.Exported.{near, admitted}
+
+near-bounds : (x : ℕ) → T (near x) → (origin / 2 ≤ x) × (x < 2 * origin)
+unfolding near
+near-bounds x t =
+    (leb→le _ _ (and-l (leb (origin / 2) x) (ltb x (2 * origin)) t), ltb→lt _ _ (and-r (leb (origin / 2) x) (ltb x (2 * origin)) t))
+
+pub part-of : (n width rows first x y : ℕ) → admitted n width rows first x y ≡ true → Part n width rows first x y
+unfolding admitted
+part-of n width rows first x y e =
+    let long = leb (rows * (4 * width)) n in
+    let t0 : T (admitted n width rows first x y) = subst (λ (b : Bool). T b) (sym e) tt in
+    let t1 = and-r (leb width 4096) (leb rows 4096 && (leb first 4096 && (near x && (near y && long)))) t0 in
+    let t2 = and-r (leb rows 4096) (leb first 4096 && (near x && (near y && long))) t1 in
+    let t3 = and-r (leb first 4096) (near x && (near y && long)) t2 in
+    let t4 = and-r (near x) (near y && long) t3 in
+    let bx = near-bounds x (and-l (near x) (near y && long) t3) in
+    let by = near-bounds y (and-l (near y) long t4) in
+    record {
+      narrow = leb→le _ _ (and-l (leb width 4096) (leb rows 4096 && (leb first 4096 && (near x && (near y && long)))) t0);
+      short = leb→le _ _ (and-l (leb rows 4096) (leb first 4096 && (near x && (near y && long))) t1);
+      high = leb→le _ _ (and-l (leb first 4096) (near x && (near y && long)) t2);
+      long = leb→le _ _ (and-r (near y) long t4);
+      right = omega arith;
+      left = bx .1;
+      below = omega arith;
+      above = by .1;
+    }

@@ -1,0 +1,35 @@
+-- What the exported functions mean, over the definitions of `font`. Definitions only.
+use mathlib.Core.Path.{_≡_}
+use mathlib.Core.Bool.{Bool, cond, _&&_}
+use mathlib.Core.List.{List, [], _∷_}
+use Prim.Native.Nat.{ℕ, _*_, _/_, _%_, _^_}
+use lib.Dec.{leb, ltb}
+use lib.ListN.{length}
+use Rattle.font.specs.Font.{tableOf, glyphRows}
+use Rattle.font.specs.Slant.{rowOffsets}
+use Rattle.font.specs.Stroke.{origin, strokeRow, eachRow}
+
+-- a color 0xRRGGBBAA as its four bytes
+abbrev pub colorOf : ℕ → List ℕ
+colorOf k = k / 2 ^ 24 ∷ k / 2 ^ 16 % 256 ∷ k / 2 ^ 8 % 256 ∷ k % 256 ∷ []
+
+-- a place no further from the picture's corner than half the way to the origin, or the whole way on the other side
+unfoldable pub near : ℕ → Bool
+near x = leb (origin / 2) x && ltb x (2 * origin)
+
+-- n bytes hold the rows of a part, and the stroke's place is near
+unfoldable pub admitted : ℕ → ℕ → ℕ → ℕ → ℕ → ℕ → Bool
+admitted n width rows first x y =
+    leb width 4096 && (leb rows 4096 && (leb first 4096 && (near x && (near y && leb (rows * (4 * width)) n))))
+
+-- the part l after one stroke; a part, or a place, that is not admitted changes nothing
+unfoldable pub stroked : ℕ → ℕ → ℕ → ℕ → Bool → Bool → ℕ → ℕ → ℕ → List ℕ → List ℕ
+stroked width rows first code bold italic k x y l =
+    cond (admitted (length l) width rows first x y)
+    (eachRow (strokeRow (glyphRows (tableOf bold) code) (rowOffsets italic) (colorOf k) x y) (4 * width) rows first l)
+    l
+
+-- the answer of a stroke, and the part before and after it
+pub record Stroked (width rows first code : ℕ) (bold italic : Bool) (k x y : ℕ) (before after : List ℕ) (answer : Bool) : Type 0 where
+  pub answers : answer ≡ admitted (length before) width rows first x y
+  pub leaves : after ≡ stroked width rows first code bold italic k x y before

@@ -1,0 +1,102 @@
+// The font for callers in C and Rust: what `host/` compares with the original, glyph by glyph and
+// stroke by stroke. The captions themselves have an interface of their own.
+ghost use mathlib.Core.Path.{_≡_};
+ghost use mathlib.Core.List.{[], _∷_};
+ghost use lib.ListN.{length};
+ghost use Rattle.font.specs.Font.{tableOf, glyphRows};
+ghost use Rattle.font_c.specs.Exported.{colorOf, near, admitted, Stroked};
+use font::BitmapFont;
+use font::Pen;
+
+// The table of the font that the bold mark picks.
+fn table(bold: bool) -> [u8; 4096]
+    ensures { λ r. ⌜ r ≡ tableOf bold ⌝ }
+{
+    if bold {
+        return BitmapFont::default_bold().table();
+    }
+    BitmapFont::default_regular().table()
+}
+
+// Writes the sixteen rows of a code point's glyph.
+#[no_mangle]
+pub extern "C" fn font_glyph_rows(code: u32, bold: bool, rows: &mut [u8; 16])
+    ensures { λ _. ⌜ now (rows .exit) ≡ glyphRows (tableOf bold) code ⌝ }
+{
+    *rows = font::glyph_rows(&table(bold), code);
+}
+
+// The bytes of a color 0xRRGGBBAA.
+fn color_bytes(color: u32) -> [u8; 4]
+    ensures { λ r. ⌜ r ≡ colorOf color ⌝ }
+{
+    [
+        (color / 0x100_0000) as u8,
+        (color / 0x1_0000 % 256) as u8,
+        (color / 0x100 % 256) as u8,
+        (color % 256) as u8,
+    ]
+}
+
+fn is_near(x: usize) -> bool
+    ensures { λ r. ⌜ r ≡ near x ⌝ }
+{
+    if x < font::ORIGIN / 2 {
+        return false;
+    }
+    x < 2 * font::ORIGIN
+}
+
+fn is_admitted(n: usize, width: usize, rows: usize, first: usize, x: usize, y: usize) -> bool
+    ensures { λ r. ⌜ r ≡ admitted n width rows first x y ⌝ }
+{
+    if 4096 < width {
+        return false;
+    }
+    if 4096 < rows {
+        return false;
+    }
+    if 4096 < first {
+        return false;
+    }
+    if !is_near(x) {
+        return false;
+    }
+    if !is_near(y) {
+        return false;
+    }
+    rows * (4 * width) <= n
+}
+
+// Blends a glyph into a part of a picture: `rows` rows of `width` pixels from the picture's row
+// `first` on. x and y, the left column and the base line, are counted from an origin 2^26 left of
+// and above the picture. Answers false, and leaves the part, where these are out of range.
+#[no_mangle]
+pub extern "C" fn font_stroke(
+    part: &mut [u8],
+    width: u32,
+    rows: u32,
+    first: u32,
+    code: u32,
+    bold: bool,
+    italic: bool,
+    color: u32,
+    x: u32,
+    y: u32,
+) -> bool
+    ensures { λ r. ⌜ Stroked width rows first code bold italic color x y (now (part .entry)) (now (part .exit)) r ⌝ }
+{
+    let w = width as usize;
+    let n = rows as usize;
+    let from = first as usize;
+    let column = x as usize;
+    let base = y as usize;
+    if !is_admitted(part.len(), w, n, from, column, base) {
+        return false;
+    }
+    let pen = Pen::new(color_bytes(color), bold, italic);
+    let offsets = pen.row_offsets();
+    let glyph = font::glyph_rows(&table(bold), code);
+    font::draw_glyph_sheared(part, w, n, from, &glyph, &offsets, column, base, pen);
+    true
+}

@@ -1,0 +1,132 @@
+//! Compares pictures that the original and the proved font drew.
+
+use crate::count::Count;
+use crate::generate;
+use crate::picture::{Picture, Stroke};
+use crate::proved::{ORIGIN, PLACE_END, PLACE_MIN, SIDE_MAX};
+use crate::random::Random;
+use reference::Original;
+
+/// Bold and italic, each on and off.
+pub const STYLES: [(bool, bool); 4] = [(false, false), (false, true), (true, false), (true, true)];
+
+const OPAQUE: [u8; 4] = [255, 255, 255, 255];
+const HALF: [u8; 4] = [200, 100, 50, 128];
+
+/// Every glyph in every style, whole inside a picture, opaque and half transparent.
+pub fn every_glyph(original: &Original) -> Count {
+    let mut count = Count::new("glyphs inside a picture");
+    for ch in '\0'..='\u{100}' {
+        for (bold, italic) in STYLES {
+            for color in [OPAQUE, HALF] {
+                let stroke = Stroke {
+                    ch,
+                    bold,
+                    italic,
+                    color,
+                    x: 8,
+                    y: 16,
+                };
+                let picture = filled(26, 24, vec![stroke], vec![0, 24]);
+                count.check(picture.compare(original).map(|_| ()));
+            }
+        }
+    }
+    count
+}
+
+/// Pictures, parts and places at the limits that the proved font still takes.
+pub fn limits(original: &Original) -> Count {
+    let mut count = Count::new("pictures at the limits");
+    let sizes = [
+        (0, 0, vec![0, 0]),
+        (0, 20, vec![0, 20]),
+        (20, 0, vec![0, 0]),
+        (SIDE_MAX, 20, vec![0, 20]),
+        (12, SIDE_MAX, vec![0, SIDE_MAX]),
+        (SIDE_MAX, SIDE_MAX, vec![0, SIDE_MAX]),
+        (12, SIDE_MAX + 20, vec![0, SIDE_MAX, SIDE_MAX + 20]),
+        (3, 2 * SIDE_MAX, vec![0, SIDE_MAX, 2 * SIDE_MAX]),
+    ];
+    for (width, height, cuts) in sizes {
+        let picture = filled(width, height, corners(width, height), cuts);
+        count.check(picture.compare(original).map(|_| ()));
+    }
+    let (least, most) = (
+        PLACE_MIN as i32 - ORIGIN as i32,
+        (PLACE_END - 1 - ORIGIN) as i32,
+    );
+    for (x, y) in [
+        (least, 12),
+        (most, 12),
+        (4, least),
+        (4, most),
+        (least, least),
+    ] {
+        let picture = filled(
+            16,
+            16,
+            vec![solid('H', x, y), solid('H', 4, 12)],
+            vec![0, 16],
+        );
+        count.check(picture.compare(original).map(|_| ()));
+    }
+    count
+}
+
+/// Random pictures, numbered from 0.
+pub fn random(original: &Original, seed: u64, pictures: u64) -> Count {
+    let mut count = Count::new("random pictures");
+    let mut changed = 0;
+    for number in 0..pictures {
+        let picture = generate::picture(&mut Random::new(seed, number));
+        let result = picture.compare(original);
+        changed += u64::from(result == Ok(true));
+        count.check(
+            result
+                .map(|_| ())
+                .map_err(|found| format!("seed {seed}, picture {number}: {found}")),
+        );
+    }
+    println!(
+        "random pictures: {changed} of those that agree differ from what they were drawn over"
+    );
+    count
+}
+
+/// A picture over bytes that are neither all alike nor blank.
+fn filled(width: u32, height: u32, strokes: Vec<Stroke>, cuts: Vec<u32>) -> Picture {
+    let mut bytes = vec![0; 4 * width as usize * height as usize];
+    Random::new(u64::from(width), u64::from(height)).fill(&mut bytes);
+    Picture {
+        width,
+        height,
+        bytes,
+        strokes,
+        cuts,
+        part_by_part: false,
+        further: 0,
+    }
+}
+
+/// Strokes that lie over the four corners of a picture.
+fn corners(width: u32, height: u32) -> Vec<Stroke> {
+    let (right, bottom) = (width as i32 - 4, height as i32 + 4);
+    vec![
+        solid('Å', -4, 6),
+        solid('H', right, 6),
+        solid('g', -4, bottom),
+        solid('\u{100}', right, bottom),
+    ]
+}
+
+fn solid(ch: char, x: i32, y: i32) -> Stroke {
+    Stroke {
+        ch,
+        bold: true,
+        italic: true,
+        color: HALF,
+        x,
+        y,
+    }
+}

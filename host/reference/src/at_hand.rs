@@ -1,0 +1,67 @@
+//! What the comparison asks of the original, where it is at hand.
+
+use crate::font::BitmapFont;
+
+/// The original's fonts. Only [`crate::original`] makes one.
+pub struct Original {
+    regular: &'static BitmapFont,
+    bold: &'static BitmapFont,
+}
+
+impl Original {
+    pub(crate) fn find() -> Option<Original> {
+        Some(Original {
+            regular: BitmapFont::default_regular(),
+            bold: BitmapFont::default_bold(),
+        })
+    }
+
+    fn font(&self, bold: bool) -> &'static BitmapFont {
+        if bold { self.bold } else { self.regular }
+    }
+
+    /// Draws one glyph into a picture of `w` by `h` pixels, upright or slanted as the original's
+    /// compositor slants it.
+    #[expect(
+        clippy::too_many_arguments,
+        reason = "they are those of the function called"
+    )]
+    pub fn draw_glyph_sheared(
+        &self,
+        bold: bool,
+        ch: char,
+        dst: &mut [u8],
+        w: u32,
+        h: u32,
+        x: i32,
+        y: i32,
+        color: [u8; 4],
+        italic: bool,
+    ) {
+        let font = self.font(bold);
+        let shear = if italic {
+            font.cell_w as f32 / 4.0
+        } else {
+            0.0
+        };
+        font.draw_glyph_sheared(ch, dst, w, h, x, y, color, shear);
+    }
+
+    /// The sixteen rows that the original draws for a code point, bit 7 leftmost, or `None` where
+    /// the code is no `char`. They are read off a picture, since its tables are private.
+    pub fn glyph_rows(&self, bold: bool, code: u32) -> Option<[u8; 16]> {
+        const WHITE: [u8; 4] = [255; 4];
+        let ch = char::from_u32(code)?;
+        let mut picture = [0; 8 * 16 * 4];
+        self.font(bold)
+            .draw_glyph(ch, &mut picture, 8, 16, 0, 12, WHITE);
+        let (pixels, _) = picture.as_chunks::<4>();
+        let mut rows = [0; 16];
+        for (row, line) in rows.iter_mut().zip(pixels.chunks_exact(8)) {
+            for pixel in line {
+                *row = *row << 1 | u8::from(*pixel == WHITE);
+            }
+        }
+        Some(rows)
+    }
+}

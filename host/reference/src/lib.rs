@@ -1,0 +1,26 @@
+//! The original: `font.rs` and `compositor.rs` of oxideav-subtitle, compiled unchanged where they
+//! stand, and what the comparison asks of them.
+//!
+//! `build.rs` looks for the two files. Where they are missing the crate still builds, [`original`]
+//! answers `None`, and nothing of them is imitated.
+
+#[cfg(original)]
+include!(concat!(env!("OUT_DIR"), "/original.rs"));
+
+#[cfg(original)]
+mod at_hand;
+#[cfg(original)]
+pub use at_hand::Original;
+
+#[cfg(not(original))]
+mod missing;
+#[cfg(not(original))]
+pub use missing::Original;
+
+/// The folder where the build looked for them.
+pub const LOOKED_IN: &str = env!("ORIGINAL_LOOKED_IN");
+
+/// The original, where it is at hand. A caller asks once and handles `None` once.
+pub fn original() -> Option<Original> {
+    Original::find()
+}

@@ -1,0 +1,35 @@
+//! What stands in the original's place where it is missing: a type that has no value.
+
+/// The original's fonts. There are none here, so no method of this type is ever called.
+pub enum Original {}
+
+impl Original {
+    pub(crate) fn find() -> Option<Original> {
+        None
+    }
+
+    /// Draws one glyph, where the original is at hand.
+    #[expect(
+        clippy::too_many_arguments,
+        reason = "they are those of the original's function"
+    )]
+    pub fn draw_glyph_sheared(
+        &self,
+        _bold: bool,
+        _ch: char,
+        _dst: &mut [u8],
+        _w: u32,
+        _h: u32,
+        _x: i32,
+        _y: i32,
+        _color: [u8; 4],
+        _italic: bool,
+    ) {
+        match *self {}
+    }
+
+    /// The rows that the original draws for a code point, where it is at hand.
+    pub fn glyph_rows(&self, _bold: bool, _code: u32) -> Option<[u8; 16]> {
+        match *self {}
+    }
+}
