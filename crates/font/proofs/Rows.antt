@@ -1,7 +1,7 @@
 -- Laws of a picture's rows, each changed by itself, and of a stroke's rows.
 use mathlib.Core.Path.{_≡_, _∙_, refl, sym, ap, subst}
 use mathlib.Core.Bool.{_&&_}
-use mathlib.Core.List.{List, [], _++_, append-assoc}
+use mathlib.Core.List.{List, _++_, append-assoc}
 use Prim.Native.Nat.{ℕ, zero, suc, _+_, _-_, _*_, _≤_, _<_, min}
 use native.Mathlib.Nat.{mul-le-mul-right, zero-mul, suc-mul, zero-add, add-zero, suc-add, add-suc, add-comm}
 use native.Mathlib.Numerals.{add-one}

@@ -121,8 +121,8 @@ fn row_offset(shear: f32, r: usize) -> u8
     requires { ⌜ Shear shear × (r < 16) ⌝ }
     ensures { λ x. ⌜ x ≡ rowOffset (leans shear) r ⌝ }
 {
-    let from_baseline = 12i16 - r as i16;
-    round(from_baseline as f32 * shear / 16.0)
+    let from_baseline = BitmapFont::BEARING_Y as i16 - r as i16;
+    round(from_baseline as f32 * shear / BitmapFont::CELL_H as f32)
 }
 
 // x to the nearest whole number, halves away from zero, plus 8. Twice x is cut and halved again:

@@ -10,6 +10,7 @@ ghost use lib.ListN.{length, getD};
 ghost use Rattle.font.specs.Blend.{blendByte, blendAlpha, blendPixel};
 ghost use Rattle.font.specs.Stroke.{paintColumn, paintBit, paintRow, strokeRow, eachRow};
 ghost use Rattle.font.specs.Places.{Inside, Part};
+use crate::BitmapFont;
 use crate::Pen;
 
 // The place of the picture's column 0 and row 0.
@@ -210,10 +211,10 @@ fn draw_rows(
         (4 * width) rows first (now (part .entry)) ⌝ }
 {
     let size = 4 * width;
-    let top = y - 12;
+    let top = y - BitmapFont::BEARING_Y as usize;
     let start = ORIGIN + first;
     let mut i = rows_above(rows, start, top);
-    let end = rows_above(rows, start, top + 16);
+    let end = rows_above(rows, start, top + BitmapFont::CELL_H as usize);
     while i < end {
         let a = i * size;
         let e = a + size;

@@ -1,8 +1,6 @@
 // The font for callers in C and Rust: what `host/` compares with the original, glyph by glyph and
 // stroke by stroke. The captions themselves have an interface of their own.
 ghost use mathlib.Core.Path.{_≡_};
-ghost use mathlib.Core.List.{[], _∷_};
-ghost use lib.ListN.{length};
 ghost use Rattle.font.specs.Font.{tableOf, glyphRows};
 ghost use Rattle.font_c.specs.Exported.{colorOf, near, admitted, Stroked};
 use font::BitmapFont;

@@ -1,5 +1,4 @@
 -- `round` meets its contract.
-use mathlib.Core.Path.{_≡_}
 use mathlib.Core.Bool.{true, false}
 use native.Mathlib.Omega.{arith}
 use lib.Ieee.{ofBits, ofInt}

@@ -1,8 +1,8 @@
 -- `row_offset` meets its contract.
-use mathlib.Core.Path.{_≡_, _∙_, ap}
+use mathlib.Core.Path.{_∙_, ap}
 use native.Mathlib.Omega.{arith}
 use lib.IntN.{pos, _-ℤ_}
-use lib.Ieee.{ofBits, ofInt}
+use lib.Ieee.{ofBits, ofInt, inFloat}
 use mir.Syntax.{w16}
 use mir.ValLaws.{toZ-ofZ, toZ-pos}
 use Rattle.font.specs.Shear.{leans, moved, rounded}
@@ -14,11 +14,18 @@ use Rattle.font.proofs.row_offset.Tie as tie
 cast-from-baseline : tie.Need-cast-from-baseline
 cast-from-baseline c = search needs
 
+cast-from-baseline-2 : tie.Need-cast-from-baseline-2
+cast-from-baseline-2 c = search needs
+
 sub-from-baseline : tie.Need-sub-from-baseline
 sub-from-baseline c = rw (toZ-pos w16 (c .args .r) (omega arith)) (distance-fits (c .args .r) (c .pre .1))
 
 int-to-float-round : tie.Need-int-to-float-round
 int-to-float-round c = search needs
+
+int-to-float-round-2 : tie.Need-int-to-float-round-2
+unfolding inFloat
+int-to-float-round-2 c = tt
 
 round-requires : tie.Need-round-requires
 unfolding ofBits ofInt moved
@@ -41,4 +48,4 @@ returns c =
 pub row-offset-spec : {M : Type 1} → statement M
 row-offset-spec =
     tie.close
-    (tie.spec cast-from-baseline sub-from-baseline int-to-float-round round-requires returns)
+    (tie.spec cast-from-baseline cast-from-baseline-2 sub-from-baseline int-to-float-round int-to-float-round-2 round-requires returns)

@@ -1,5 +1,4 @@
 -- `Pen::new` meets its contract.
-use mathlib.Core.Path.{refl}
 use lib.Ieee.{ofBits, ofInt, div, inFloat}
 use Rattle.font.specs.Shear.{shearOf}
 use Rattle.font.proofs.Pen.new.Statement.{statement}

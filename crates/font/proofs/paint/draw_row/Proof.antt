@@ -1,5 +1,4 @@
 -- `draw_row` meets its contract.
-use Prim.Native.Nat.{_+_, _-_}
 use borrow.Author.Needs.{needs}
 use Rattle.font.proofs.paint.draw_row.Statement.{statement}
 use Rattle.font.proofs.paint.draw_row.Tie as tie

@@ -1,7 +1,7 @@
 -- `draw_rows` meets its contract.
 use mathlib.Core.Path.{_≡_, _∙_, refl}
 use mathlib.Core.List.{[], _∷_}
-use Prim.Native.Nat.{_+_, _-_, _*_, _≤_, _<_, min}
+use Prim.Native.Nat.{_+_, _-_, _*_, _≤_, min}
 use native.Mathlib.Omega.{arith}
 use lib.ListN.{length}
 use borrow.Author.Needs.{needs}
@@ -25,6 +25,9 @@ abbrev μ-loop : tie.MeasureT-loop
 mul-size : tie.Need-mul-size Inv-loop μ-loop
 mul-size c = search needs
 
+cast-top : tie.Need-cast-top Inv-loop μ-loop
+cast-top c = search needs
+
 sub-top : tie.Need-sub-top Inv-loop μ-loop
 sub-top c = search needs
 
@@ -33,6 +36,9 @@ add-start c = search needs
 
 rows-above-requires : tie.Need-rows-above-requires Inv-loop μ-loop
 rows-above-requires c κs = search needs
+
+cast-rows-above : tie.Need-cast-rows-above Inv-loop μ-loop
+cast-rows-above c = search needs
 
 add-rows-above : tie.Need-add-rows-above Inv-loop μ-loop
 add-rows-above c = search needs
@@ -123,9 +129,11 @@ draw-rows-spec =
     Inv-loop
     μ-loop
     mul-size
+    cast-top
     sub-top
     add-start
     rows-above-requires
+    cast-rows-above
     add-rows-above
     rows-above-requires-2
     loop-holds
