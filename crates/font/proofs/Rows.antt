@@ -23,6 +23,23 @@ row-in i rows size h k =
 pub less : {i n : ℕ} → i < n → n - (i + 1) < n - i
 less h = omega arith
 
+pub rest : (a size : ℕ) → a + size - a ≡ size
+rest a size = omega arith
+
+-- row i of a part, whose first row is at place start, has row r of a glyph, whose top is at place top
+pub record Falls (rows start top i r : ℕ) : Type 0 where
+  pub within : i < rows
+  pub next : i + 1 ≤ rows
+  pub reaches : top ≤ start + i
+  pub row : r < 16
+  pub is : start + i ≡ top + r
+
+-- so has each row that a loop from the first of the glyph's rows to the last comes to
+pub falls : (rows start top i end : ℕ) → min rows (top - start) ≤ i → i < end → end ≡ min rows (top + 16 - start)
+    → Falls rows start top i (start + i - top)
+falls rows start top i end h k e =
+    record { within = omega arith; next = omega arith; reaches = omega arith; row = omega arith; is = omega arith }
+
 module _ (f : ℕ → List ℕ → List ℕ) (size : ℕ) where
   -- the first a rows, where f keeps them
   pub rows-skip : (a b y : ℕ) (l : List ℕ) → ((j : ℕ) (r : List ℕ) → j < a → f (y + j) r ≡ r)
@@ -102,11 +119,11 @@ module _ (glyph offsets k : List ℕ) (x base size rows first : ℕ) (whole : Li
       ∙ rows-skip stroke size i (rows - i) first whole (λ d row b. stroke-above glyph offsets k x base (first + d) row (omega arith))
 
   -- row i, on which the glyph's row r falls
-  pub left-turn : (i r n : ℕ) (part row : List ℕ) → i < rows → r < 16 → origin + (first + i) ≡ base - bearingY + r
+  pub left-turn : (i r n : ℕ) (part row : List ℕ) → Falls rows (origin + first) (base - bearingY) i r
       → i * size + size ≤ length part → n ≡ size
       → row ≡ paintRow k (getD glyph r 0) (x + getD offsets r 0 - 8) (take n (drop (i * size) part)) → Left i part
       → Left (i + 1) (take (i * size) part ++ (row ++ drop n (drop (i * size) part)))
-  left-turn i r n part row h b e fits q p w =
+  left-turn i r n part row f fits q p w =
       let old = take size (drop (i * size) part) in
       let m : rows - i ≡ suc (rows - (i + 1)) = omega arith in
       let v : (i + 1) * size ≡ i * size + size = ap (λ (j : ℕ). j * size) (add-one i) ∙ suc-mul i size in
@@ -117,7 +134,7 @@ module _ (glyph offsets k : List ℕ) (x base size rows first : ℕ) (whole : Li
       ∙ length-take-le size (drop (i * size) part) (rw length-drop (omega arith)) in
       rw (v, y, q)
       (rows-turn stroke size (rows - (i + 1)) (first + i) (i * size) part row (eachRow stroke size rows first whole) fits long
-      (p′ ∙ sym (stroke-on glyph offsets k x base (first + i) old r b e)) (rw m at w))
+      (p′ ∙ sym (stroke-on glyph offsets k x base (first + i) old r (f .row) (omega arith))) (rw m at w))
 
   -- the rows below the glyph
   pub left-end : (i : ℕ) (part : List ℕ) → min rows (base - bearingY + 16 - (origin + first)) ≤ i → Left i part

@@ -23,7 +23,7 @@ unfolding tabulate
 loop-holds c = (omega arith, refl, refl)
 
 row-offset-requires : tie.Need-row-offset-requires Inv-loop μ-loop
-row-offset-requires c κs = (c .before .before .pre, c .loop-test .taken)
+row-offset-requires c κs = (c .before .before .pre, omega arith)
 
 array-write-offsets : tie.Need-array-write-offsets Inv-loop μ-loop
 array-write-offsets c = search needs

@@ -2,12 +2,13 @@
 use mathlib.Core.Path.{_≡_, _∙_, refl}
 use mathlib.Core.List.{[], _∷_}
 use Prim.Native.Nat.{_+_, _-_, _*_, _≤_, min}
+use native.Mathlib.Nat.{le-trans, le-add-right}
 use native.Mathlib.Omega.{arith}
 use lib.ListN.{length}
 use borrow.Author.Needs.{needs}
 use borrow.Rule.Slice.PartMut.{same-len-mid}
 use Rattle.font.specs.Stroke.{origin}
-use Rattle.font.proofs.Rows.{row-in, less, Left, left-start, left-turn, left-end}
+use Rattle.font.proofs.Rows.{row-in, less, rest, Falls, falls, Left, left-start, left-turn, left-end}
 use Rattle.font.proofs.paint.draw_rows.Statement.{statement}
 use Rattle.font.proofs.paint.draw_rows.Tie as tie
 
@@ -58,13 +59,20 @@ loop-holds c =
           (omega arith) (omega arith),
     )
 
--- row i lies in the part
+-- the glyph has a row on row i
+at : (c : tie.In-loop Inv-loop μ-loop)
+    → let a = c .before .before .before .before .before .args in
+    let i = c .before .loop .i in
+    Falls (a .rows) (origin + a .first) (a .y - 12) i (origin + a .first + i - (a .y - 12))
+at c = falls _ _ _ _ _ (c .before .loop .inv .0) (c .loop-test .taken) (c .before .loop .inv .2)
+
+-- and row i lies in the part
 fits : (c : tie.In-loop Inv-loop μ-loop)
-    → c .before .loop .i * (4 * c .before .before .before .before .before .args .width) + 4 * c .before .before .before .before .before .args .width
-    ≤ length (c .before .loop .part)
+    → let a = c .before .before .before .before .before .args in
+    c .before .loop .i * (4 * a .width) + 4 * a .width ≤ length (c .before .loop .part)
 fits c =
     let start = c .before .before .before .before .before in
-    row-in (c .before .loop .i) (start .args .rows) (4 * start .args .width) (omega arith) (omega arith)
+    row-in _ _ (4 * start .args .width) (at c .within) (rw (c .before .loop .inv .3) (start .pre .long))
 
 mul-a : tie.Need-mul-a Inv-loop μ-loop
 mul-a c = omega (arith, fits c)
@@ -76,7 +84,7 @@ add-r : tie.Need-add-r Inv-loop μ-loop
 add-r c = search needs
 
 sub-r : tie.Need-sub-r Inv-loop μ-loop
-sub-r c = search needs
+sub-r c = at c .reaches
 
 sub-draw-row : tie.Need-sub-draw-row Inv-loop μ-loop
 sub-draw-row c = search needs
@@ -88,7 +96,9 @@ part-draw-row-end : tie.Need-part-draw-row-end Inv-loop μ-loop
 part-draw-row-end c = fits c
 
 draw-row-requires : tie.Need-draw-row-requires Inv-loop μ-loop
-draw-row-requires c κs = search needs
+draw-row-requires c κs =
+    let start = c .before .before .before .before .before .before in
+    (at (c .before) .row, start .pre .right, start .pre .left)
 
 add-i : tie.Need-add-i Inv-loop μ-loop
 add-i c = search needs
@@ -102,14 +112,14 @@ loop-again c =
     let a = turn .before .before .before .before .before .args in
     let l = turn .before .loop in
     let size = 4 * a .width in
-    let e : l .i * size + size - l .i * size ≡ size = omega arith in (
-      omega arith,
-      omega arith,
+    let drawn = c .before .before .draw-row in
+    let n = l .i * size + size - l .i * size in (
+      le-trans (l .inv .0) (le-add-right (l .i) 1),
+      at turn .next,
       l .inv .2,
-      same-len-mid (l .i * size) (l .i * size + size - l .i * size) (l .part) (c .before .before .draw-row .last .0) (c .before .before .draw-row .kept .0) ∙ l .inv .3,
-      left-turn (a .glyph .now) (a .offsets .now) _ (a .x) (a .y) size (a .rows) (a .first) (a .part .now) (l .i)
-          (origin + a .first + l .i - (a .y - 12)) (l .i * size + size - l .i * size) (l .part) (c .before .before .draw-row .last .0)
-          (omega arith) (omega arith) (omega arith) (fits turn) e (c .before .before .draw-row .ensures) (l .inv .4),
+      same-len-mid (l .i * size) n (l .part) (drawn .last .0) (drawn .kept .0) ∙ l .inv .3,
+      left-turn (a .glyph .now) (a .offsets .now) _ (a .x) (a .y) size (a .rows) (a .first) (a .part .now) (l .i) _ n (l .part) (drawn .last .0)
+          (at turn) (fits turn) (rest (l .i * size) size) (drawn .ensures) (l .inv .4),
     )
 
 same-length : tie.Need-same-length Inv-loop μ-loop
