@@ -23,9 +23,6 @@ row-in i rows size h k =
 pub less : {i n : ℕ} → i < n → n - (i + 1) < n - i
 less h = omega arith
 
-pub rest : (a size : ℕ) → a + size - a ≡ size
-rest a size = omega arith
-
 -- row i of a part, whose first row is at place start, has row r of a glyph, whose top is at place top
 pub record Falls (rows start top i r : ℕ) : Type 0 where
   pub within : i < rows

@@ -25,9 +25,9 @@ bold-rule i = List·getD-map embolden regularTable i 0
 abbrev rowOf : ℕ → ℕ → ℕ
 rowOf g r = getD (rowsOf cellH g) r 0
 
--- row r of an accent over the glyph g
+-- row r of a letter under an accent, where the letter alone has the row `bare`
 abbrev pub accentRow : ℕ → ℕ → ℕ → ℕ
-accentRow hat g r = cond (ltb r 2) (hat / 256 ^ (1 - r) % 256) g
+accentRow hat bare r = cond (ltb r 2) (hat / 256 ^ (1 - r) % 256) bare
 
 row? : ℕ → ℕ → ℕ → Bool
 row? hat c r = eqb (rowOf (glyphOf (accented hat c)) r) (accentRow hat (rowOf (letter c) r) r)

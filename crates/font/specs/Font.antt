@@ -51,6 +51,7 @@ unfoldable pub boldTable : List ℕ
 unfolding regularTable
 boldTable = map embolden regularTable
 
+-- the rows of the font of a bold mark
 abbrev pub tableOf : Bool → List ℕ
 tableOf b = cond b boldTable regularTable
 

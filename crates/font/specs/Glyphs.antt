@@ -131,7 +131,7 @@ pub data Shape : Type 0 where
   drawn : ℕ → Shape
   accented : ℕ → ℕ → Shape
 
--- the glyph of a shape: an accent replaces the letter's rows 0 and 1, and no other
+-- the glyph of a shape: an accent replaces the letter's rows 0 and 1, and no other; so ì, í, î and ï keep the lower row of the dot
 unfoldable pub glyphOf : Shape → ℕ
 unfolding letter
 glyphOf (drawn g) = g

@@ -14,7 +14,7 @@ pub record Part (n width rows first x y : ℕ) : Type 0 where
   pub short : rows ≤ 4096
   pub high : first ≤ 4096
   pub long : rows * (4 * width) ≤ n
-  pub right : 8 ≤ x
-  pub left : x < 2 * origin
-  pub below : bearingY ≤ y
-  pub above : y < 2 * origin
+  pub x-least : 8 ≤ x
+  pub x-most : x < 2 * origin
+  pub y-least : bearingY ≤ y
+  pub y-most : y < 2 * origin

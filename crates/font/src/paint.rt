@@ -94,7 +94,7 @@ fn paint_pair(row: &mut [u8], x: usize, bits: u8, c: usize, red: u8, green: u8, 
 }
 
 // Paints a glyph's row that lies whole on the picture's row. The columns are written out, since the
-// compiler does not unroll a loop of this size, and then does not vectorise it.
+// compiler does not unroll a loop of this size, which then takes twice the time.
 fn paint_inside(row: &mut [u8], x: usize, bits: u8, red: u8, green: u8, blue: u8, alpha: u8)
     requires { ⌜ Inside (length (now row)) x ⌝ }
     ensures { λ _. ⌜ now (row .exit) ≡ paintRow (red ∷ green ∷ blue ∷ alpha ∷ []) bits x (now (row .entry)) ⌝ }

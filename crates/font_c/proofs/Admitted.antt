@@ -30,8 +30,8 @@ part-of n width rows first x y e =
       short = leb→le _ _ (and-l (leb rows 4096) (leb first 4096 && (near x && (near y && long))) t1);
       high = leb→le _ _ (and-l (leb first 4096) (near x && (near y && long)) t2);
       long = leb→le _ _ (and-r (near y) long t4);
-      right = omega arith;
-      left = bx .1;
-      below = omega arith;
-      above = by .1;
+      x-least = omega arith;
+      x-most = bx .1;
+      y-least = omega arith;
+      y-most = by .1;
     }

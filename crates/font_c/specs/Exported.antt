@@ -13,7 +13,7 @@ use Rattle.font.specs.Stroke.{origin, strokeRow, eachRow}
 abbrev pub colorOf : ℕ → List ℕ
 colorOf k = k / 2 ^ 24 ∷ k / 2 ^ 16 % 256 ∷ k / 2 ^ 8 % 256 ∷ k % 256 ∷ []
 
--- a place no further from the picture's corner than half the way to the origin, or the whole way on the other side
+-- a place from 2^25 up to 2^27; the picture's corner is at 2^26
 unfoldable pub near : ℕ → Bool
 near x = leb (origin / 2) x && ltb x (2 * origin)
 

@@ -2,13 +2,13 @@
 use mathlib.Core.Path.{_≡_, _∙_, refl}
 use mathlib.Core.List.{[], _∷_}
 use Prim.Native.Nat.{_+_, _-_, _*_, _≤_, min}
-use native.Mathlib.Nat.{le-trans, le-add-right}
+use native.Mathlib.Nat.{le-trans, le-add-right, add-sub-cancel-left}
 use native.Mathlib.Omega.{arith}
 use lib.ListN.{length}
 use borrow.Author.Needs.{needs}
 use borrow.Rule.Slice.PartMut.{same-len-mid}
 use Rattle.font.specs.Stroke.{origin}
-use Rattle.font.proofs.Rows.{row-in, less, rest, Falls, falls, Left, left-start, left-turn, left-end}
+use Rattle.font.proofs.Rows.{row-in, less, Falls, falls, Left, left-start, left-turn, left-end}
 use Rattle.font.proofs.paint.draw_rows.Statement.{statement}
 use Rattle.font.proofs.paint.draw_rows.Tie as tie
 
@@ -98,7 +98,7 @@ part-draw-row-end c = fits c
 draw-row-requires : tie.Need-draw-row-requires Inv-loop μ-loop
 draw-row-requires c κs =
     let start = c .before .before .before .before .before .before in
-    (at (c .before) .row, start .pre .right, start .pre .left)
+    (at (c .before) .row, start .pre .x-least, start .pre .x-most)
 
 add-i : tie.Need-add-i Inv-loop μ-loop
 add-i c = search needs
@@ -119,7 +119,7 @@ loop-again c =
       l .inv .2,
       same-len-mid (l .i * size) n (l .part) (drawn .last .0) (drawn .kept .0) ∙ l .inv .3,
       left-turn (a .glyph .now) (a .offsets .now) _ (a .x) (a .y) size (a .rows) (a .first) (a .part .now) (l .i) _ n (l .part) (drawn .last .0)
-          (at turn) (fits turn) (rest (l .i * size) size) (drawn .ensures) (l .inv .4),
+          (at turn) (fits turn) (add-sub-cancel-left (l .i * size) size) (drawn .ensures) (l .inv .4),
     )
 
 same-length : tie.Need-same-length Inv-loop μ-loop
