@@ -1,0 +1,11 @@
+pub mod Numbers
+pub mod Faults
+pub mod Commands
+pub mod Steps
+pub mod Styles
+pub mod Stores
+pub mod Went
+pub mod Leaves
+pub mod Marked
+pub mod Numbered
+pub mod Whole

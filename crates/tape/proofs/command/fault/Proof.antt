@@ -1,0 +1,125 @@
+use mathlib.Core.Path.{_≡_, _∙_, sym}
+use mathlib.Core.Bool.{Bool, true, false}
+use mathlib.Core.List.{List}
+use Prim.Native.Nat.{ℕ, _+_}
+use borrow.Author.Needs.{needs}
+use borrow.Author.Tests.{lt-ltb, le-ltb}
+use lib.Dec.{ltb}
+use lib.ListN.{length, getD, drop, length-drop}
+use Rattle.tape.specs.Command.{mostLetters, width, added, faultOf}
+use Rattle.tape.proofs.Faults.{from3, from6, from4, from2, from5, from7}
+use Rattle.tape.proofs.command.fault.Statement.{statement}
+use Rattle.tape.proofs.command.fault.Tie as tie
+
+-- the tests so far have failed: the fault is what f says of the rest of the table
+abbrev Left : tie.Start → (Bool → ℕ → ℕ → ℕ → List ℕ → ℕ) → Type 0
+Left s f =
+    let a = s .args in
+    let c = getD (a .tape .now) (a .at) 0 in
+    let rest = drop (a .at + 1) (a .tape .now) in
+    faultOf (a .name) (a .depth) (a .count) c rest ≡ f (a .name) (a .depth) (a .count) c rest
+
+shared-slice-read-c : tie.Need-shared-slice-read-c
+shared-slice-read-c c = search needs
+
+returns : tie.Need-returns
+unfolding faultOf
+returns c = rw (lt-ltb _ _ (c .if1 .taken))
+
+left-1 : (c : tie.Else1) → Left (c .before .before .before) from7
+unfolding faultOf
+left-1 c = rw (le-ltb _ _ (c .if1 .left))
+
+is-strange-requires : tie.Need-is-strange-requires
+is-strange-requires c κs = search needs
+
+returns-2 : tie.Need-returns-2
+returns-2 c = sym (left-1 (c .before .before) ∙ rw (← c .before .is-strange .ensures, c .if2 .taken))
+
+left-2 : (c : tie.Else2) → Left (c .before .before .before .before .before) from5
+left-2 c = left-1 (c .before .before) ∙ rw (← c .before .is-strange .ensures, c .if2 .left)
+
+is-too-deep-requires : tie.Need-is-too-deep-requires
+is-too-deep-requires c κs = search needs
+
+returns-3 : tie.Need-returns-3
+returns-3 c = sym (left-2 (c .before .before) ∙ rw (← c .before .is-too-deep .ensures, c .if3 .taken))
+
+left-3 : (c : tie.Else3) → Left (c .before .before .before .before .before .before .before) from2
+left-3 c = left-2 (c .before .before) ∙ rw (← c .before .is-too-deep .ensures, c .if3 .left)
+
+add-if4 : tie.Need-add-if4
+add-if4 c = search needs
+
+sub-if4 : tie.Need-sub-if4
+sub-if4 c = search needs
+
+operand-width-requires : tie.Need-operand-width-requires
+operand-width-requires c κs = search needs
+
+returns-4 : tie.Need-returns-4
+returns-4 c =
+    let w = c .before .operand-width .ensures .0 in
+    sym (left-3 (c .before .before) ∙ rw (length-drop, ← w, lt-ltb _ _ (c .if4 .taken)))
+
+left-4 : (c : tie.Else4) → Left (c .before .before .before .before .before .before .before .before .before) from4
+left-4 c =
+    let w = c .before .operand-width .ensures .0 in
+    left-3 (c .before .before) ∙ rw (length-drop, ← w, le-ltb _ _ (c .if4 .left))
+
+is-no-scalar-requires : tie.Need-is-no-scalar-requires
+is-no-scalar-requires c κs = search needs
+
+returns-5 : tie.Need-returns-5
+returns-5 c = sym (left-4 (c .before .before) ∙ rw (← c .before .is-no-scalar .ensures, c .if5 .taken))
+
+left-5 : (c : tie.Else5) → Left (c .before .before .before .before .before .before .before .before .before .before .before) from6
+left-5 c = left-4 (c .before .before) ∙ rw (← c .before .is-no-scalar .ensures, c .if5 .left)
+
+letters-added-requires : tie.Need-letters-added-requires
+letters-added-requires c κs = search needs
+
+add-if6 : tie.Need-add-if6
+add-if6 c = search needs
+
+returns-6 : tie.Need-returns-6
+returns-6 c =
+    let more = c .before .letters-added .ensures .0 in
+    sym (left-5 (c .before .before) ∙ rw (← more, lt-ltb _ _ (c .if6 .taken)))
+
+left-6 : (c : tie.Else6) → Left (c .before .before .before .before .before .before .before .before .before .before .before .before .before) from3
+left-6 c =
+    let more = c .before .letters-added .ensures .0 in
+    left-5 (c .before .before) ∙ rw (← more, le-ltb _ _ (c .if6 .left))
+
+is-stray-end-requires : tie.Need-is-stray-end-requires
+is-stray-end-requires c κs = search needs
+
+returns-7 : tie.Need-returns-7
+returns-7 c = sym (left-6 (c .before .before) ∙ rw (← c .before .is-stray-end .ensures, c .if7 .taken))
+
+returns-8 : tie.Need-returns-8
+returns-8 c = sym (left-6 (c .before .before) ∙ rw (← c .before .is-stray-end .ensures, c .if7 .left))
+
+pub fault-spec : {M : Type 1} → statement M
+fault-spec =
+    tie.close
+    (tie.spec
+    shared-slice-read-c
+    returns
+    is-strange-requires
+    returns-2
+    is-too-deep-requires
+    returns-3
+    add-if4
+    sub-if4
+    operand-width-requires
+    returns-4
+    is-no-scalar-requires
+    returns-5
+    letters-added-requires
+    add-if6
+    returns-6
+    is-stray-end-requires
+    returns-7
+    returns-8)

@@ -1,0 +1,19 @@
+-- What reading or a call comes to: document 01, "Who is stopped, and by what". Definitions only.
+use mathlib.Core.Bool.{Bool, true, false}
+use Prim.Native.Nat.{ℕ}
+
+-- something, or a refusal: its number and its place
+pub data Outcome (A : Type 0) : Type 0 where
+  accepted : A → Outcome A
+  refused : ℕ → ℕ → Outcome A
+
+module _ {A : Type 0} where
+  -- a refusal where a test holds, else what comes after it
+  abbrev pub refuseIf : Bool → ℕ → ℕ → Outcome A → Outcome A
+  refuseIf true number place o = refused number place
+  refuseIf false number place o = o
+
+  -- f of what is accepted; a refusal stays
+  abbrev pub onAccepted : {B : Type 0} → (A → B) → Outcome A → Outcome B
+  onAccepted f (accepted a) = accepted (f a)
+  onAccepted f (refused number place) = refused number place

@@ -1,0 +1,140 @@
+-- Promises: what the reader's functions ask of and tell each other. No reader of the deposit needs this file.
+use mathlib.Core.Path.{_≡_}
+use mathlib.Core.Bool.{Bool, true, false}
+use mathlib.Core.List.{List, _∷_}
+use Prim.Native.Nat.{ℕ, _+_, _*_, _≤_, _<_}
+use lib.ListN.{length, getD, drop}
+use Rattle.tape.specs.declared.Style.{Style}
+use Rattle.tape.specs.declared.State.{State}
+use Rattle.tape.specs.declared.Step.{Step}
+use Rattle.tape.specs.declared.Step.the-variants.{Done, Refused}
+use Rattle.tape.specs.declared.Answer.{Answer}
+use Rattle.tape.specs.Outcome.{Outcome, accepted, refused}
+use Rattle.tape.specs.Command.{mostLetters, width, isOpener, added, faultOf, Command, commandOf}
+use Rattle.tape.specs.Runs.{Run, Letter}
+use Rattle.tape.specs.Tape.{Frame, frame, leave, after, read, tapeLetters, refuseLengths}
+use Rattle.tape.specs.Marks.{Last, last, lastAfter, marked}
+use Rattle.tape.specs.Stored.{stored}
+
+-- ---- what has been stored
+
+abbrev pub lastOf : State → Last
+lastOf st = last (st .last) (st .fresh)
+
+-- the state at the place `at`, after runs more
+abbrev pub wrote : State → List Run → ℕ → State
+wrote st rs at =
+    record {
+      at = at;
+      count = st .count + length (marked (lastOf st) rs);
+      last = lastAfter (lastOf st) rs .style;
+      fresh = lastAfter (lastOf st) rs .fresh;
+    }
+
+-- and the workspace
+abbrev pub holding : List ℕ → State → List Run → List ℕ
+holding ws st rs = stored ws (st .count) (marked (lastOf st) rs)
+
+-- runs were stored, and the state moved on to the place `at`
+pub record Wrote (ws ws' : List ℕ) (st st' : State) (rs : List Run) (at : ℕ) : Type 0 where
+  pub state : st' ≡ wrote st rs at
+  pub bytes : ws' ≡ holding ws st rs
+
+-- ---- what is asked
+
+-- the command at a state's place, and the bytes after its first
+abbrev pub byteOf : List ℕ → State → ℕ
+byteOf tape st = getD tape (st .at) 0
+
+abbrev pub restOf : List ℕ → State → List ℕ
+restOf tape st = drop (st .at + 1) tape
+
+-- the place after the command and its operands
+abbrev pub placeAfter : List ℕ → State → ℕ
+placeAfter tape st = st .at + 1 + width (byteOf tape st)
+
+-- a state that can be read on from
+pub record Ready (tape ws : List ℕ) (st : State) : Type 0 where
+  pub within : st .at ≤ length tape
+  pub few : st .count ≤ mostLetters
+  pub space : 8 * mostLetters ≤ length ws
+
+-- one with a command without a fault, in a name or not, in a list of this depth
+pub record Sound (tape ws : List ℕ) (st : State) (name : Bool) (depth : ℕ) : Type 0 where
+  pub inside : st .at < length tape
+  pub clear : faultOf name depth (st .count) (byteOf tape st) (restOf tape st) ≡ 0
+  pub space : 8 * mostLetters ≤ length ws
+
+-- one with a whole command that neither opens nor ends anything, and room for its letter
+pub record Leaf (tape ws : List ℕ) (st : State) : Type 0 where
+  pub known : byteOf tape st < 12
+  pub some : 0 < byteOf tape st
+  pub flat : isOpener (byteOf tape st) ≡ false
+  pub whole : placeAfter tape st ≤ length tape
+  pub few : st .count + added false (byteOf tape st) ≤ mostLetters
+  pub space : 8 * mostLetters ≤ length ws
+
+-- ---- what is told
+
+-- what the tape means from a place on, after n letters
+unfoldable pub from : List ℕ → Frame → ℕ → ℕ → Outcome (List Run)
+from tape f at n = read 0 f at n (drop at tape)
+
+-- The frames that reading starts and ends in, with any styles around: in a list, in a name, and in a list just opened.
+abbrev pub inList : Style → List Style → Frame
+inList s around = frame s around false
+
+abbrev pub inName : Style → List Style → Frame
+inName s around = frame s around true
+
+abbrev pub opened : Style → Style → List Style → Frame
+opened t s around = frame t (s ∷ around) false
+
+-- from a to b the reader stored the runs that the tape means there; X is the frame at a, and Y at b
+pub record Went (tape ws ws' : List ℕ) (depth : ℕ) (X Y : List Style → Frame) (a b : State) : Type 0 where
+  pub runs : List Run
+  pub stored : Wrote ws ws' a b runs (b .at)
+  pub on : a .at ≤ b .at
+  pub within : b .at ≤ length tape
+  pub few : b .count ≤ mostLetters
+  pub same : (around : List Style) → length around ≡ depth → from tape (X around) (a .at) (a .count) ≡ after runs (from tape (Y around) (b .at) (b .count))
+
+-- the tape is refused from a on
+abbrev pub Stopped : List ℕ → ℕ → (List Style → Frame) → State → ℕ → ℕ → Type 0
+Stopped tape depth X a number place =
+    (around : List Style) → length around ≡ depth → from tape (X around) (a .at) (a .count) ≡ refused number place
+
+abbrev pub Reads : List ℕ → List ℕ → List ℕ → ℕ → (List Style → Frame) → (List Style → Frame) → State → Step → Type 0
+Reads tape ws ws' depth X Y a (Done b) = Went tape ws ws' depth X Y a b
+Reads tape ws ws' depth X Y a (Refused number place) = Stopped tape depth X a number place
+
+-- a segment moves on
+abbrev pub Onward : State → Step → Type 0
+Onward a (Done b) = a .at < b .at
+Onward a (Refused number place) = Unit
+
+-- the outer list goes to the tape's end
+abbrev pub ToTheEnd : List ℕ → ℕ → Step → Type 0
+ToTheEnd tape depth (Done b) = depth ≡ 0 → length tape ≤ b .at
+ToTheEnd tape depth (Refused number place) = Unit
+
+-- ---- the call
+
+-- the answer that says an outcome: how many letters there are, or the refusal's number and place
+abbrev pub answerOf : Outcome (List Letter) → Answer
+answerOf (accepted ls) = Answer.Letters (length ls)
+answerOf (refused number place) = Answer.Refused number place
+
+-- what the workspace is afterwards: it begins with the letters and is as it was behind them; after 10 and 11 it is as it was;
+-- after the tape's own refusals its contents are free
+abbrev pub Left : Outcome (List Letter) → List ℕ → List ℕ → Type 0
+Left (accepted ls) ws ws' = ws' ≡ stored ws 0 ls
+Left (refused number place) ws ws' = 10 ≤ number → ws' ≡ ws
+
+-- what a call of the reader comes to
+unfoldable pub tapeRead : Style → ℕ → List ℕ → Outcome (List Letter)
+tapeRead s room tape = refuseLengths tape room (tapeLetters s tape)
+
+pub record TapeRead (tape ws ws' : List ℕ) (s : Style) (answer : Answer) : Type 0 where
+  pub answers : answer ≡ answerOf (tapeRead s (length ws) tape)
+  pub leaves : Left (tapeRead s (length ws) tape) ws ws'

@@ -1,0 +1,91 @@
+-- THE MEANING OF A CUE TAPE: document 01, "Tape" and the first paragraph of "Runs and lines". Definitions only.
+--
+-- A tape is a list of bytes. It is read from its first byte, command by command, and means runs, or is refused with a number and a place.
+-- Between two commands the reading stands in a frame: the style in force; the styles of the lists around the open one, the nearest first,
+-- so that the depth is how many they are; and whether a voice's name is being read.
+use mathlib.Core.Bool.{Bool, true, false}
+use mathlib.Core.List.{List, [], _∷_, _++_}
+use Prim.Native.Nat.{ℕ, zero, suc, _+_}
+use lib.Dec.{ltb}
+use lib.ListN.{length}
+use Rattle.tape.specs.declared.Style.{Style}
+use Rattle.tape.specs.Outcome.{Outcome, accepted, refused, refuseIf, onAccepted}
+use Rattle.tape.specs.Style.{Opener, inside}
+use Rattle.tape.specs.Command.{width, added, faultOf, Command, ends, text, opens, voice, timestamp, commandOf}
+use Rattle.tape.specs.Runs.{Run, run, merge, Letter, lettersOf}
+
+pub record Frame : Type 0 where
+  pub style : Style
+  pub around : List Style
+  pub name : Bool
+
+abbrev pub frame : Style → List Style → Bool → Frame
+frame s around name = record { style = s; around = around; name = name }
+
+-- the runs that a command adds, in the style in force: a text is one, and so is the ": " that the 00 of a name adds
+abbrev pub says : Command → Style → Bool → List Run
+says (text vs) s name = run s vs ∷ []
+says ends s true = run s (0x3a ∷ 0x20 ∷ []) ∷ []
+says ends s false = []
+says (opens o) s name = []
+says voice s name = []
+says timestamp s name = []
+
+-- the frame after a list has ended: the style around it is in force again
+abbrev pub leave : Style → List Style → Frame
+leave s [] = frame s [] false
+leave s (t ∷ around) = frame t around false
+
+-- the frame after a command: the 00 of a name opens the voice's list
+abbrev pub next : Command → Style → List Style → Bool → Frame
+next (text vs) s around name = frame s around name
+next ends s around true = frame s (s ∷ around) false
+next ends s around false = leave s around
+next (opens o) s around name = frame (inside o s) (s ∷ around) false
+next voice s around name = frame s around true
+next timestamp s around name = frame s around name
+
+-- the tape may end in the outer list alone
+abbrev pub atEnd : List Style → Bool → ℕ → Outcome (List Run)
+atEnd [] false place = accepted []
+atEnd [] true place = refused 3 place
+atEnd (s ∷ around) name place = refused 3 place
+
+-- runs, and then what follows them
+abbrev pub after : List Run → Outcome (List Run) → Outcome (List Run)
+after rs o = onAccepted (λ qs. rs ++ qs) o
+
+-- a fault, where its number is not 0, or what follows
+abbrev pub unless : ℕ → ℕ → Outcome (List Run) → Outcome (List Run)
+unless zero place o = o
+unless (suc k) place o = refused (suc k) place
+
+-- What bytes mean that stand at a place, counted from the tape's start, where n letters came before them.
+-- The first `skip` bytes are operands, which the command before them has read.
+unfoldable pub read : ℕ → Frame → ℕ → ℕ → List ℕ → Outcome (List Run)
+read skip f place n [] = atEnd (f .around) (f .name) place
+read (suc skip) f place n (b ∷ rest) = read skip f (place + 1) n rest
+read zero f place n (c ∷ rest) =
+    let command = commandOf c rest in
+    unless (faultOf (f .name) (length (f .around)) n c rest) place
+    (after (says command (f .style) (f .name))
+    (read (width c) (next command (f .style) (f .around) (f .name)) (place + 1) (n + added (f .name) c) rest))
+
+-- the runs of a tape, merged; s is the style of the outer list
+unfoldable pub tapeRuns : Style → List ℕ → Outcome (List Run)
+tapeRuns s tape = onAccepted merge (read zero (frame s [] false) 0 0 tape)
+
+-- its letters
+unfoldable pub tapeLetters : Style → List ℕ → Outcome (List Letter)
+tapeLetters s tape = onAccepted lettersOf (tapeRuns s tape)
+
+-- the most bytes of a tape, and the least of a workspace
+abbrev pub mostBytes : ℕ
+mostBytes = 16384
+
+abbrev pub leastRoom : ℕ
+leastRoom = 65536
+
+-- what is refused of a tape and of the `room` bytes of a workspace before the tape is read: 10 and 11
+abbrev pub refuseLengths : {A : Type 0} → List ℕ → ℕ → Outcome A → Outcome A
+refuseLengths tape room o = refuseIf (ltb mostBytes (length tape)) 10 0 (refuseIf (ltb room leastRoom) 11 0 o)

@@ -1,0 +1,180 @@
+// The tape's commands: what each is, and what is refused in one.
+ghost use mathlib.Core.Path.{_≡_};
+ghost use mathlib.Core.Bool.{not, _&&_, _||_};
+ghost use Prim.Native.Nat.{_+_, _≤_, _<_};
+ghost use lib.ListN.{length, getD, take, drop};
+ghost use lib.Dec.{eqb};
+ghost use Rattle.tape.specs.Style.{inside};
+ghost use Rattle.tape.specs.Command.{deepest, mostLetters, width, numberFrom, codePoint, isLetter, isOpener, isScalar, added, faultOf, openerOf};
+use crate::Style;
+
+const DEEPEST: usize = 16;
+
+const MOST_LETTERS: usize = 4096;
+
+// How many operand bytes follow each command.
+const WIDTHS: [u8; 12] = [0, 0, 1, 2, 3, 0, 0, 0, 3, 0, 0, 0];
+
+pub fn operand_width(c: u8) -> usize
+    requires { ⌜ c < 12 ⌝ }
+    ensures { λ r. ⌜ (r ≡ width c) × (r ≤ 3) ⌝ }
+{
+    WIDTHS[c as usize] as usize
+}
+
+fn is_letter(c: u8) -> bool
+    ensures { λ r. ⌜ r ≡ isLetter c ⌝ }
+{
+    if c < 0x02 { false } else { c <= 0x04 }
+}
+
+pub fn is_opener(c: u8) -> bool
+    ensures { λ r. ⌜ r ≡ isOpener c ⌝ }
+{
+    if c < 0x06 { false } else { c <= 0x0a }
+}
+
+fn is_scalar(v: u32) -> bool
+    ensures { λ r. ⌜ r ≡ isScalar v ⌝ }
+{
+    if v < 0xd800 {
+        return true;
+    }
+    if 0xdfff < v { v <= 0x10_ffff } else { false }
+}
+
+// The number that w bytes spell.
+fn number_at(tape: &[u8], from: usize, w: usize) -> u32
+    requires { ⌜ (from + w ≤ length (now tape)) × (w ≤ 3) ⌝ }
+    ensures { λ r. ⌜ (r ≡ numberFrom 0 (take w (drop from (now (tape .entry))))) × (r < 16777216) ⌝ }
+{
+    let mut v: u32 = 0;
+    let mut i: usize = 0;
+    while i < w {
+        v = v * 256 + tape[from + i] as u32;
+        i += 1;
+    }
+    v
+}
+
+// The code point of the letter command at a place.
+pub fn code_point(tape: &[u8], at: usize) -> u32
+    requires { ⌜ (getD (now tape) at 0 < 12) × (at + width (getD (now tape) at 0) < length (now tape)) ⌝ }
+    ensures { λ r. ⌜ (r ≡ codePoint (getD (now (tape .entry)) at 0) (drop (at + 1) (now (tape .entry)))) × (r < 16777216) ⌝ }
+{
+    number_at(tape, at + 1, operand_width(tape[at]))
+}
+
+// How many letters a command adds.
+fn letters_added(name: bool, c: u8) -> usize
+    ensures { λ r. ⌜ (r ≡ added name c) × (r ≤ 2) ⌝ }
+{
+    if 0x02 <= c {
+        return if c <= 0x05 { 1 } else { 0 };
+    }
+    if c == 0x00 {
+        return if name { 2 } else { 0 };
+    }
+    0
+}
+
+// A command that no name holds.
+fn is_strange(name: bool, c: u8) -> bool
+    ensures { λ r. ⌜ r ≡ (name && not (eqb c 0 || isLetter c)) ⌝ }
+{
+    if name {
+        if c == 0x00 {
+            return false;
+        }
+        return !is_letter(c);
+    }
+    false
+}
+
+// An opener whose list would lie too deep.
+fn is_too_deep(c: u8, depth: usize) -> bool
+    ensures { λ r. ⌜ r ≡ (isOpener c && eqb depth deepest) ⌝ }
+{
+    if is_opener(c) {
+        return depth == DEEPEST;
+    }
+    false
+}
+
+// A letter command with no Unicode scalar value.
+fn is_no_scalar(tape: &[u8], at: usize) -> bool
+    requires { ⌜ (getD (now tape) at 0 < 12) × (at + width (getD (now tape) at 0) < length (now tape)) ⌝ }
+    ensures { λ r. ⌜ r ≡ (isLetter (getD (now (tape .entry)) at 0) && not (isScalar (codePoint (getD (now (tape .entry)) at 0) (drop (at + 1) (now (tape .entry)))))) ⌝ }
+{
+    if is_letter(tape[at]) {
+        return !is_scalar(code_point(tape, at));
+    }
+    false
+}
+
+// An end that no list and no name has.
+fn is_stray_end(c: u8, name: bool, depth: usize) -> bool
+    ensures { λ r. ⌜ r ≡ (eqb c 0 && (not name && eqb depth 0)) ⌝ }
+{
+    if c == 0x00 {
+        if name {
+            return false;
+        }
+        return depth == 0;
+    }
+    false
+}
+
+// The number of the first fault of the command at a place, or 0.
+pub fn fault(tape: &[u8], at: usize, count: usize, name: bool, depth: usize) -> u8
+    requires { ⌜ (at < length (now tape)) × (count ≤ mostLetters) ⌝ }
+    ensures { λ r. ⌜ r ≡ faultOf name depth count (getD (now (tape .entry)) at 0) (drop (at + 1) (now (tape .entry))) ⌝ }
+{
+    let c = tape[at];
+    if 0x0b < c {
+        return 1;
+    }
+    if is_strange(name, c) {
+        return 7;
+    }
+    if is_too_deep(c, depth) {
+        return 5;
+    }
+    if tape.len() - (at + 1) < operand_width(c) {
+        return 2;
+    }
+    if is_no_scalar(tape, at) {
+        return 4;
+    }
+    if MOST_LETTERS < count + letters_added(name, c) {
+        return 6;
+    }
+    if is_stray_end(c, name, depth) {
+        return 3;
+    }
+    0
+}
+
+// The style inside a list that the command at a place opens.
+pub fn style_inside(tape: &[u8], at: usize, s: Style) -> Style
+    requires { ⌜ at + width (getD (now tape) at 0) < length (now tape) ⌝ }
+    ensures { λ r. ⌜ r ≡ inside (openerOf (getD (now (tape .entry)) at 0) (drop (at + 1) (now (tape .entry)))) s ⌝ }
+{
+    let c = tape[at];
+    if c == 0x06 {
+        return Style { bold: true, ..s };
+    }
+    if c == 0x07 {
+        return Style { italic: true, ..s };
+    }
+    if c == 0x08 {
+        return Style {
+            red: tape[at + 1],
+            green: tape[at + 2],
+            blue: tape[at + 3],
+            alpha: 0xff,
+            ..s
+        };
+    }
+    s
+}

@@ -1,0 +1,38 @@
+// Letters in the workspace, eight bytes each: three of the code point, high byte first; red, green,
+// blue, alpha; and flags.
+ghost use mathlib.Core.Path.{_≡_};
+ghost use mathlib.Core.Bool.{cond};
+ghost use Prim.Native.Nat.{_+_, _*_, _≤_, _<_};
+ghost use lib.ListN.{length};
+ghost use lib.Seq.{sets};
+ghost use Rattle.tape.specs.Stored.{flagsOf, cellOf};
+use crate::Style;
+
+fn flag(on: bool, v: u8) -> u8
+    ensures { λ r. ⌜ (r ≡ cond on v 0) × (r ≤ v) ⌝ }
+{
+    if on { v } else { 0 }
+}
+
+// 1 for bold, 2 for italic, 4 for the start of a run.
+fn flags(s: Style, start: bool) -> u8
+    ensures { λ r. ⌜ r ≡ flagsOf s start ⌝ }
+{
+    flag(s.bold, 1) + flag(s.italic, 2) + flag(start, 4)
+}
+
+// Stores letter number `count`.
+pub fn put_letter(ws: &mut [u8], count: usize, code: u32, s: Style, start: bool)
+    requires { ⌜ (8 * count + 8 ≤ length (now ws)) × (code < 16777216) ⌝ }
+    ensures { λ _. ⌜ now (ws .exit) ≡ sets (now (ws .entry)) (8 * count) (cellOf code s start) ⌝ }
+{
+    let i = 8 * count;
+    ws[i] = (code / 65536) as u8;
+    ws[i + 1] = (code / 256 % 256) as u8;
+    ws[i + 2] = (code % 256) as u8;
+    ws[i + 3] = s.red;
+    ws[i + 4] = s.green;
+    ws[i + 5] = s.blue;
+    ws[i + 6] = s.alpha;
+    ws[i + 7] = flags(s, start);
+}
