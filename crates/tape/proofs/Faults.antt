@@ -4,7 +4,7 @@ use mathlib.Core.Bool.{Bool, true, false, cond, not, _&&_, _||_}
 use mathlib.Core.List.{List}
 use Prim.Native.Nat.{ℕ, suc, _+_, _≤_, _<_}
 use native.Mathlib.Omega.{arith}
-use borrow.Author.Tests.{ltb-false, eq-eqb, eqb-false}
+use borrow.Author.Tests.{le-ltb, ltb-false, eq-eqb, eqb-false}
 use lib.Dec.{ltb, eqb}
 use lib.ListN.{length}
 use Rattle.tape.specs.Command.{deepest, mostLetters, width, codePoint, isLetter, isOpener, isScalar, added, faultOf}
@@ -59,6 +59,23 @@ clean name depth n c rest e =
       few = ltb-false _ _ (l .0);
       nested = cond-zero (eqb c 0 && (not name && eqb depth 0)) 2 (l .1) .0;
     }
+
+-- and the other way round
+pub no-fault : (name : Bool) (depth n c : ℕ) (rest : List ℕ) → Clean name depth n c rest
+    → (isLetter c && not (isScalar (codePoint c rest))) ≡ false
+    → faultOf name depth n c rest ≡ 0
+unfolding faultOf
+no-fault name depth n c rest ok scalar =
+    let known : c ≤ 11 = omega arith in
+    rw (
+      le-ltb 11 c known,
+      ok .plain,
+      ok .shallow,
+      le-ltb (length rest) (width c) (ok .whole),
+      scalar,
+      le-ltb mostLetters (n + added name c) (ok .few),
+      ok .nested,
+    )
 
 -- a list that a 00 ends is not the outer one
 pub not-outer : {depth n c : ℕ} {rest : List ℕ} → Clean false depth n c rest → c ≡ 0 → depth ≡ 0 → ⊥

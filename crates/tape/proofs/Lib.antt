@@ -9,3 +9,5 @@ pub mod Leaves
 pub mod Marked
 pub mod Numbered
 pub mod Whole
+pub mod Alike
+pub mod Written

@@ -1,8 +1,8 @@
--- The other reading of a tape: the segments that it writes, and the runs that walking them gives, as the original has it.
--- That both readings agree is `written-means` of proofs/Written.antt. Definitions only.
-use mathlib.Core.Bool.{Bool, cond, _&&_}
+-- The other reading of a tape: the segments that it writes, and the runs that walking them gives, as in the original.
+-- That the two readings agree is `written-means` of proofs/Written.antt. Definitions only.
+use mathlib.Core.Bool.{Bool, true, cond, _&&_}
 use mathlib.Core.List.{List, [], _∷_, _++_}
-use Prim.Native.Nat.{ℕ, zero, suc, _+_, _/_, _%_, max}
+use Prim.Native.Nat.{ℕ, suc, _+_, _/_, _%_, max}
 use lib.Dec.{ltb}
 use lib.ListN.{length}
 use Rattle.tape.specs.declared.Style.{Style}
@@ -10,7 +10,9 @@ use Rattle.tape.specs.Style.{Opener, bold, italic, color, plain, inside}
 use Rattle.tape.specs.Command.{isScalar}
 use Rattle.tape.specs.Runs.{Run, run}
 
--- A segment, and a list of segments. `Underline`, `Strike`, `Font`, `Class` and `Karaoke` are plain groups, and `Raw` is a text.
+infixr 20 _then_
+
+-- A segment, and a list of segments. `Raw` is a text; `Underline`, `Strike`, `Font`, `Class` and `Karaoke` are plain groups.
 mutual
   pub data Segment : Type 0 where
     text : List ℕ → Segment
@@ -21,4 +23,101 @@ mutual
 
   pub data Segments : Type 0 where
     none : Segments
-    first : Segment → Segments → Segments
+    _then_ : Segment → Segments → Segments
+
+-- ---- the runs of segments, before they merge
+
+abbrev mutual
+  pub walk : Segment → Style → List Run
+  walk (text vs) s = run s vs ∷ []
+  walk lineBreak s = run s (0x0a ∷ []) ∷ []
+  walk timestamp s = []
+  walk (group o gs) s = walkList gs (inside o s)
+  walk (voice name gs) s = run s (name ++ (0x3a ∷ 0x20 ∷ [])) ∷ walkList gs s
+
+  pub walkList : Segments → Style → List Run
+  walkList none s = []
+  walkList (g then gs) s = walk g s ++ walkList gs s
+
+-- ---- their tape
+
+-- a letter, in the shortest command that holds its code point
+unfoldable pub letterBytes : ℕ → List ℕ
+letterBytes v =
+    cond (ltb v 0x100) (0x02 ∷ v ∷ [])
+    (cond (ltb v 0x10000) (0x03 ∷ v / 256 ∷ v % 256 ∷ []) (0x04 ∷ v / 65536 ∷ v / 256 % 256 ∷ v % 256 ∷ []))
+
+abbrev pub lettersBytes : List ℕ → List ℕ
+lettersBytes [] = []
+lettersBytes (v ∷ vs) = letterBytes v ++ lettersBytes vs
+
+-- a text without a letter is the command 01
+abbrev pub textBytes : List ℕ → List ℕ
+textBytes [] = 0x01 ∷ []
+textBytes (v ∷ vs) = lettersBytes (v ∷ vs)
+
+abbrev pub nameBytes : List ℕ → List ℕ
+nameBytes name = lettersBytes name ++ (0x00 ∷ [])
+
+abbrev pub openerBytes : Opener → List ℕ
+openerBytes bold = 0x06 ∷ []
+openerBytes italic = 0x07 ∷ []
+openerBytes (color r g b) = 0x08 ∷ r ∷ g ∷ b ∷ []
+openerBytes plain = 0x0a ∷ []
+
+abbrev mutual
+  pub written : Segment → List ℕ
+  written (text vs) = textBytes vs
+  written lineBreak = 0x05 ∷ []
+  written timestamp = 0x0b ∷ []
+  written (group o gs) = openerBytes o ++ (writtenList gs ++ (0x00 ∷ []))
+  written (voice name gs) = 0x09 ∷ nameBytes name ++ (writtenList gs ++ (0x00 ∷ []))
+
+  pub writtenList : Segments → List ℕ
+  writtenList none = []
+  writtenList (g then gs) = written g ++ writtenList gs
+
+-- ---- their limits
+
+-- how many letters they have: a break is one, and a voice adds two
+abbrev mutual
+  pub letters : Segment → ℕ
+  letters (text vs) = length vs
+  letters lineBreak = 1
+  letters timestamp = 0
+  letters (group o gs) = lettersList gs
+  letters (voice name gs) = length name + (2 + lettersList gs)
+
+  pub lettersList : Segments → ℕ
+  lettersList none = 0
+  lettersList (g then gs) = letters g + lettersList gs
+
+-- how deep their lists lie
+abbrev mutual
+  pub depth : Segment → ℕ
+  depth (text vs) = 0
+  depth lineBreak = 0
+  depth timestamp = 0
+  depth (group o gs) = suc (depthList gs)
+  depth (voice name gs) = suc (depthList gs)
+
+  pub depthList : Segments → ℕ
+  depthList none = 0
+  depthList (g then gs) = max (depth g) (depthList gs)
+
+-- every letter is a Unicode scalar value
+abbrev pub areScalars : List ℕ → Bool
+areScalars [] = true
+areScalars (v ∷ vs) = isScalar v && areScalars vs
+
+abbrev mutual
+  pub scalars : Segment → Bool
+  scalars (text vs) = areScalars vs
+  scalars lineBreak = true
+  scalars timestamp = true
+  scalars (group o gs) = scalarsList gs
+  scalars (voice name gs) = areScalars name && scalarsList gs
+
+  pub scalarsList : Segments → Bool
+  scalarsList none = true
+  scalarsList (g then gs) = scalars g && scalarsList gs
