@@ -13,6 +13,7 @@ use Rattle.tape.specs.Command.{deepest, codePoint, isLetter, isOpener, a
 use Rattle.tape.specs.Runs.{Run}
 use Rattle.tape.specs.Tape.{says}
 use Rattle.tape.specs.Marks.{Last, marked}
+use Rattle.tape.proofs.Styles.{split}
 
 pub positive : (c : ℕ) → (c ≡ 0 → ⊥) → 0 < c
 positive c h = omega (arith, h)
@@ -77,17 +78,9 @@ else-letter c h z o a b e = go (leb c 5) refl
         rw (le-leb 2 c (omega (arith, a)), le-leb c 4 (omega (arith, b)))
     go false p = let six = leb-false c 5 p in absurd (not-open c o six (omega (arith, e)))
 
-and-left : (a b : Bool) → (a && b) ≡ true → a ≡ true
-and-left true b e = refl
-and-left false b e = e
-
-and-right : (a b : Bool) → (a && b) ≡ true → b ≡ true
-and-right true b e = e
-and-right false b e = let z : false ≡ true = e in cc
-
 at-least-two : (c : ℕ) → isLetter c ≡ true → 2 ≤ c
 unfolding isLetter
-at-least-two c e = leb-true 2 c (and-left (leb 2 c) (leb c 4) e)
+at-least-two c e = leb-true 2 c (split (leb 2 c) (leb c 4) e .0)
 
 pub letter-command : (c : ℕ) (rest : List ℕ) → isLetter c ≡ true → commandOf c rest ≡ text (codePoint c rest ∷ [])
 unfolding commandOf
@@ -99,7 +92,7 @@ pub letter-adds : (c : ℕ) (name : Bool) → isLetter c ≡ true → added name
 unfolding added isLetter
 letter-adds c name e =
     let two = at-least-two c e in
-    let four = leb-true c 4 (and-right (leb 2 c) (leb c 4) e) in
+    let four = leb-true c 4 (split (leb 2 c) (leb c 4) e .1) in
     rw (le-leb 2 c two, le-leb c 5 (omega arith))
 
 -- outside of a name, and behind its 00, no command adds two
@@ -110,7 +103,7 @@ added-either c name h = rw (ne-eqb c 0 (λ e. omega arith))
 pub letter-flat : (c : ℕ) → isLetter c ≡ true → isOpener c ≡ false
 unfolding isOpener isLetter
 letter-flat c e =
-    let four = leb-true c 4 (and-right (leb 2 c) (leb c 4) e) in
+    let four = leb-true c 4 (split (leb 2 c) (leb c 4) e .1) in
     rw (lt-leb 6 c (omega arith))
 
 -- what a name holds but its 00
@@ -122,7 +115,7 @@ name-letter c e h = not-false (isLetter c) (rw (ne-eqb c 0 (λ z. omega arith)) 
 pub opener-range : (c : ℕ) → isOpener c ≡ true → (6 ≤ c) × (c ≤ 10)
 unfolding isOpener
 opener-range c e =
-    (leb-true 6 c (and-left (leb 6 c) (leb c 10) e), leb-true c 10 (and-right (leb 6 c) (leb c 10) e))
+    (leb-true 6 c (split (leb 6 c) (leb c 10) e .0), leb-true c 10 (split (leb 6 c) (leb c 10) e .1))
 
 pub open-command : (c : ℕ) (rest : List ℕ) → isOpener c ≡ true → (c ≡ 9 → ⊥) → commandOf c rest ≡ opens (openerOf c rest)
 open-command c rest o h =

@@ -7,7 +7,10 @@ pub mod Stores
 pub mod Went
 pub mod Leaves
 pub mod Marked
-pub mod Numbered
+pub mod Bounds
 pub mod Whole
 pub mod Alike
 pub mod Written
+pub mod Letters
+pub mod Bytes
+pub mod Cases

@@ -18,7 +18,7 @@ last-append : (l : Last) (rs qs : List Run) → lastAfter l (rs ++ qs) ≡ lastA
 last-append l [] qs = refl
 last-append l (r ∷ rs) qs = last-append (lastWith l r) rs qs
 
-marked-append : (l : Last) (rs qs : List Run) → marked l (rs ++ qs) ≡ marked l rs ++ marked (lastAfter l rs) qs
+pub marked-append : (l : Last) (rs qs : List Run) → marked l (rs ++ qs) ≡ marked l rs ++ marked (lastAfter l rs) qs
 marked-append l [] qs = refl
 marked-append l (r ∷ rs) qs =
     ap (λ (x : List Letter). lettersIn (r .style) (starts l (r .style)) (r .text) ++ x) (marked-append (lastWith l r) rs qs)

@@ -6,7 +6,7 @@ use lib.Dec.{eqb}
 use Rattle.tape.specs.declared.Style.{Style}
 use Rattle.tape.specs.Style.{sameStyle}
 
-split : (a b : Bool) → (a && b) ≡ true → (a ≡ true) × (b ≡ true)
+pub split : (a b : Bool) → (a && b) ≡ true → (a ≡ true) × (b ≡ true)
 split true b e = (refl, e)
 split false b e = let z : false ≡ true = e in (z, cc)
 

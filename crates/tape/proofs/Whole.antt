@@ -17,7 +17,7 @@ use Rattle.tape.specs.Marks.{last, marked}
 use Rattle.tape.specs.Stored.{stored}
 use Rattle.tape.specs.Reading.{wrote, holding, inList, Went, Stopped, from, answerOf, Left, tapeRead, TapeRead}
 use Rattle.tape.proofs.Marked.{marked-merged}
-use Rattle.tape.proofs.Numbered.{Numbered, letters-numbered}
+use Rattle.tape.proofs.Bounds.{Bounded, letters-bounded}
 use Rattle.tape.proofs.Steps.{end-from}
 
 pub too-long : (tape ws : List ℕ) (s : Style) → mostBytes < length tape → TapeRead tape ws ws s (Answer.Refused 10 0)
@@ -58,8 +58,8 @@ module _ (tape ws ws' : List ℕ) (s : Style) (h : length tape ≤ mostBytes) (k
   pub tape-refused : (number place : ℕ) → Stopped tape 0 (inList s) (start s) number place → TapeRead tape ws ws' s (Answer.Refused number place)
   tape-refused number place f =
       let e : tapeLetters s tape ≡ refused number place = unfolds ∙ ap (λ (o : Outcome (List Run)). onAccepted lettersOf (onAccepted merge o)) (f [] refl) in
-      let own = subst (λ (o : Outcome (List Letter)). Numbered o) e (letters-numbered s tape) in
-      told tape ws ws' s (refused number place) h k e (λ ten. absurd (omega arith))
+      let own = subst (λ (o : Outcome (List Letter)). Bounded (length tape) o) e (letters-bounded s tape) in
+      told tape ws ws' s (refused number place) h k e (λ ten. let most = own .most in absurd (omega arith))
 
   pub tape-accepted : (end : State) → Went tape ws ws' 0 (inList s) (leave s) (start s) end → length tape ≤ end .at → TapeRead tape ws ws' s (Answer.Letters (end .count))
   tape-accepted end w g =

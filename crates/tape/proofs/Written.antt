@@ -14,12 +14,14 @@ use Rattle.tape.specs.declared.Style.{Style}
 use Rattle.tape.specs.Outcome.{Outcome, accepted, onAccepted}
 use Rattle.tape.specs.Style.{Opener, bold, italic, color, plain, inside}
 use Rattle.tape.specs.Command.{deepest, mostLetters, width, codePoint, isLetter, isOpener, isScalar, added, Command, ends, text, opens, voice, timestamp, commandOf}
-use Rattle.tape.specs.Runs.{Run, run, merge}
-use Rattle.tape.specs.Tape.{Frame, frame, says, next, after, read, tapeRuns}
-use Rattle.tape.specs.Segments.{Segment, Segments, lineBreak, group, none, _then_, walk, walkList, letterBytes, lettersBytes, textBytes, nameBytes, openerBytes, written, writtenList, letters, lettersList, depth, depthList, areScalars, scalars, scalarsList}
+use Rattle.tape.specs.Runs.{Run, run, merge, lettersOf}
+use Rattle.tape.specs.Tape.{Frame, frame, says, next, after, read, tapeRuns, tapeLetters, mostBytes, leastRoom}
+use Rattle.tape.specs.Segments.{Segment, Segments, lineBreak, group, none, _then_, walk, walkList, letterBytes, lettersBytes, textBytes, nameBytes, openerBytes, written, writtenList, letters, lettersList, depth, depthList, areScalars, isWritable, writable, writableList, Within}
+use Rattle.tape.specs.Reading.{tapeRead}
 use Rattle.tape.proofs.Alike.{Alike, alike-merge, alike-append, alike-trans, alike-refl, spelled, alike-spelled, alike-named}
 use Rattle.tape.proofs.Commands.{letter-command, letter-flat, letter-adds}
 use Rattle.tape.proofs.Faults.{Clean, no-fault}
+use Rattle.tape.proofs.Styles.{split}
 use Rattle.tape.proofs.Steps.{after-none, after-after, read-command}
 
 -- From frame f and after n letters, these bytes go to frame g and m letters, and add runs that merge like rs.
@@ -116,9 +118,11 @@ module _ (s : Style) (around : List Style) (name : Bool) (n : ℕ) where
           (λ rest. letter-command c (operands ++ rest) l ∙ ap (λ (x : ℕ). text (x ∷ [])) (is rest))
           (ap (λ (x : ℕ). n + x) (letter-adds c name l))
           k
+
       long : ltb v 0x100 ≡ false → (t : Bool) → ltb v 0x10000 ≡ t → Means (frame s around name) (frame s around name) n (n + 1) (run s (v ∷ []) ∷ []) (letterBytes v)
       long a true e = rw (a, e) (as-command 3 (v / 256 ∷ v % 256 ∷ []) (lit< tt) three refl refl (λ rest. spells-2 v rest))
       long a false e = rw (a, e) (as-command 4 (v / 65536 ∷ v / 256 % 256 ∷ v % 256 ∷ []) (lit< tt) four refl refl (λ rest. spells-3 v rest))
+
       short : (t : Bool) → ltb v 0x100 ≡ t → Means (frame s around name) (frame s around name) n (n + 1) (run s (v ∷ []) ∷ []) (letterBytes v)
       short true e = rw e (as-command 2 (v ∷ []) (lit< tt) two refl refl (λ rest. spells-1 v rest))
       short false e = long e (ltb v 0x10000) refl
@@ -165,10 +169,6 @@ module _ (s : Style) (around : List Style) (n : ℕ) where
 
 -- ---- segments
 
-split : (a b : Bool) → (a && b) ≡ true → (a ≡ true) × (b ≡ true)
-split true b e = (refl, e)
-split false b e = let z : false ≡ true = e in (z, cc)
-
 means-letters : (s : Style) (around : List Style) (name : Bool) (n : ℕ) (vs : List ℕ) → areScalars vs ≡ true → n + length vs ≤ mostLetters
     → Means (frame s around name) (frame s around name) n (n + length vs) (spelled s vs) (lettersBytes vs)
 means-letters s around name n [] h k = rw add-zero (record { runs = []; alike = alike-refl []; goes = λ place rest. (place, sym (after-none _)) })
@@ -197,17 +197,18 @@ means-name s around n name h k =
     (means-then (means-letters s around true n name h (omega arith)) (means-colon s around (n + length name) k))
 
 mutual
-  means-segment : (g : Segment) (s : Style) (around : List Style) (n : ℕ) → length around + depth g ≤ deepest → n + letters g ≤ mostLetters → scalars g ≡ true
+  means-segment : (g : Segment) (s : Style) (around : List Style) (n : ℕ) → length around + depth g ≤ deepest → n + letters g ≤ mostLetters → writable g ≡ true
       → Means (frame s around false) (frame s around false) n (n + letters g) (walk g s) (written g)
   means-segment (Segment.text []) s around n d k h = rw add-zero (means-empty s around n (omega arith))
   means-segment (Segment.text (v ∷ vs)) s around n d k h = like (alike-spelled s v vs) (means-letters s around false n (v ∷ vs) h k)
   means-segment lineBreak s around n d k h = means-break s around n k
   means-segment Segment.timestamp s around n d k h = rw add-zero (means-timestamp s around n (omega arith))
   means-segment (group o gs) s around n d k h =
+      let p = split (isWritable o) (writableList gs) h in
       means-then (means-opener s around n o (omega arith) (omega arith))
-      (means-list (inside o s) s around k (means-segments gs (inside o s) (s ∷ around) n (omega arith) k h))
+      (means-list (inside o s) s around k (means-segments gs (inside o s) (s ∷ around) n (omega arith) k (p .1)))
   means-segment (Segment.voice name gs) s around n d k h =
-      let p = split (areScalars name) (scalarsList gs) h in
+      let p = split (areScalars name) (writableList gs) h in
       let m : ℕ = n + length name + 2 in
       let e : m + lettersList gs ≡ n + (length name + (2 + lettersList gs)) = omega arith in
       rw (← e)
@@ -215,30 +216,31 @@ mutual
       (means-then (means-name s around n name (p .0) (omega arith))
       (means-list s s around (omega arith) (means-segments gs s (s ∷ around) m (omega arith) (omega arith) (p .1)))))
 
-  means-segments : (gs : Segments) (s : Style) (around : List Style) (n : ℕ) → length around + depthList gs ≤ deepest → n + lettersList gs ≤ mostLetters → scalarsList gs ≡ true
+  means-segments : (gs : Segments) (s : Style) (around : List Style) (n : ℕ) → length around + depthList gs ≤ deepest → n + lettersList gs ≤ mostLetters → writableList gs ≡ true
       → Means (frame s around false) (frame s around false) n (n + lettersList gs) (walkList gs s) (writtenList gs)
   means-segments none s around n d k h = means-letters s around false n [] refl k
   means-segments (g then gs) s around n d k h =
-      let p = split (scalars g) (scalarsList gs) h in
+      let p = split (writable g) (writableList gs) h in
       rw (← add-assoc n (letters g) (lettersList gs))
       (means-then (means-segment g s around n (omega arith) (omega arith) (p .0)) (means-segments gs s around (n + letters g) (omega arith) (omega arith) (p .1)))
 
 -- ---- the law
 
--- segments within the limits: their lists at most 16 deep, at most 4,096 letters, each a Unicode scalar value
-pub record Within (gs : Segments) : Type 0 where
-  pub deep : depthList gs ≤ deepest
-  pub few : lettersList gs ≤ mostLetters
-  pub codes : scalarsList gs ≡ true
-
--- their tape is admitted, and means the runs that walking them gives, merged
+-- the tape of segments within the limits is admitted, and means the runs that walking them gives, merged
 pub written-means : (gs : Segments) (s : Style) → Within gs → tapeRuns s (writtenList gs) ≡ accepted (merge (walkList gs s))
 unfolding tapeRuns read
 written-means gs s h =
     let few = h .few in
     let deep = h .deep in
-    let m = means-segments gs s [] 0 (omega arith) (omega arith) (h .codes) in
+    let m = means-segments gs s [] 0 (omega arith) (omega arith) (h .can) in
     let g = m .goes 0 [] in
     let e : read 0 (frame s [] false) 0 0 (writtenList gs) ≡ accepted (m .runs) =
     ap (read 0 (frame s [] false) 0 0) (sym (append-nil (writtenList gs))) ∙ g .1 ∙ ap accepted (append-nil (m .runs)) in
     ap (onAccepted merge) e ∙ ap accepted (alike-merge (m .runs) (walkList gs s) (m .alike))
+
+-- so is what a call of the reader comes to, where the tape is not too long
+pub written-read : (gs : Segments) (s : Style) (room : ℕ) → Within gs → length (writtenList gs) ≤ mostBytes → leastRoom ≤ room
+    → tapeRead s room (writtenList gs) ≡ accepted (lettersOf (merge (walkList gs s)))
+unfolding tapeRead tapeLetters
+written-read gs s room h k l =
+    rw (le-ltb mostBytes (length (writtenList gs)) k, le-ltb room leastRoom l, written-means gs s h)

@@ -1,17 +1,17 @@
 -- The other reading of a tape: the segments that it writes, and the runs that walking them gives, as in the original.
 -- That the two readings agree is `written-means` of proofs/Written.antt. Definitions only.
+use mathlib.Core.Path.{_≡_}
 use mathlib.Core.Bool.{Bool, true, cond, _&&_}
 use mathlib.Core.List.{List, [], _∷_, _++_}
-use Prim.Native.Nat.{ℕ, suc, _+_, _/_, _%_, max}
+use Prim.Native.Nat.{ℕ, suc, _+_, _/_, _%_, _≤_, _<_, max}
 use lib.Dec.{ltb}
 use lib.ListN.{length}
 use Rattle.tape.specs.declared.Style.{Style}
 use Rattle.tape.specs.Style.{Opener, bold, italic, color, plain, inside}
-use Rattle.tape.specs.Command.{isScalar}
+use Rattle.tape.specs.Command.{deepest, mostLetters, isScalar}
 use Rattle.tape.specs.Runs.{Run, run}
 
 infixr 20 _then_
-
 -- A segment, and a list of segments. `Raw` is a text; `Underline`, `Strike`, `Font`, `Class` and `Karaoke` are plain groups.
 mutual
   pub data Segment : Type 0 where
@@ -105,19 +105,36 @@ abbrev mutual
   depthList none = 0
   depthList (g then gs) = max (depth g) (depthList gs)
 
--- every letter is a Unicode scalar value
+-- whether they can be written: every letter is a Unicode scalar value, and every color byte a byte
 abbrev pub areScalars : List ℕ → Bool
 areScalars [] = true
 areScalars (v ∷ vs) = isScalar v && areScalars vs
 
-abbrev mutual
-  pub scalars : Segment → Bool
-  scalars (text vs) = areScalars vs
-  scalars lineBreak = true
-  scalars timestamp = true
-  scalars (group o gs) = scalarsList gs
-  scalars (voice name gs) = areScalars name && scalarsList gs
+abbrev pub isWritable : Opener → Bool
+isWritable bold = true
+isWritable italic = true
+isWritable (color r g b) = ltb r 256 && (ltb g 256 && ltb b 256)
+isWritable plain = true
 
-  pub scalarsList : Segments → Bool
-  scalarsList none = true
-  scalarsList (g then gs) = scalars g && scalarsList gs
+abbrev mutual
+  pub writable : Segment → Bool
+  writable (text vs) = areScalars vs
+  writable lineBreak = true
+  writable timestamp = true
+  writable (group o gs) = isWritable o && writableList gs
+  writable (voice name gs) = areScalars name && writableList gs
+
+  pub writableList : Segments → Bool
+  writableList none = true
+  writableList (g then gs) = writable g && writableList gs
+
+-- within the limits
+pub record Within (gs : Segments) : Type 0 where
+  pub deep : depthList gs ≤ deepest
+  pub few : lettersList gs ≤ mostLetters
+  pub can : writableList gs ≡ true
+
+-- a list of bytes
+abbrev pub Bytes : List ℕ → Type 0
+Bytes [] = Unit
+Bytes (b ∷ bs) = (b < 256) × Bytes bs

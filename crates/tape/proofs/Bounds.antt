@@ -1,0 +1,99 @@
+-- What a tape comes to is bounded: at most 4,096 letters, or a refusal with a number from 1 to 7 and a place on the tape or at its end.
+use mathlib.Core.Path.{_≡_, _∙_, refl, sym, ap, ap₂, subst}
+use mathlib.Core.Bool.{Bool, true, false, cond, not, _&&_, _||_}
+use mathlib.Core.List.{List, [], _∷_, _++_}
+use Prim.Native.Nat.{ℕ, zero, suc, _+_, _≤_}
+use native.Mathlib.Omega.{arith}
+use lib.Dec.{lit≤, ltb, eqb}
+use lib.ListN.{length, length-append}
+use Rattle.tape.specs.declared.Style.{Style}
+use Rattle.tape.specs.Outcome.{Outcome, accepted, refused, onAccepted}
+use Rattle.tape.specs.Command.{deepest, mostLetters, width, codePoint, isLetter, isOpener, isScalar, added, faultOf, commandOf}
+use Rattle.tape.specs.Runs.{Run, merge, Letter, lettersOf}
+use Rattle.tape.specs.Tape.{Frame, frame, says, next, atEnd, after, unless, read, tapeRuns, tapeLetters}
+use Rattle.tape.specs.Marks.{Last, last, lastAfter, marked}
+use Rattle.tape.proofs.Commands.{says-added}
+use Rattle.tape.proofs.Faults.{clean, from3, from6, from4, from2, from5, from7}
+use Rattle.tape.proofs.Marked.{marked-merged}
+use Rattle.tape.proofs.Stores.{marked-append}
+
+pub record Own (number place end : ℕ) : Type 0 where
+  pub least : 1 ≤ number
+  pub most : number ≤ 7
+  pub on : place ≤ end
+
+abbrev pub Bounded : ℕ → Outcome (List Letter) → Type 0
+Bounded end (accepted ls) = length ls ≤ mostLetters
+Bounded end (refused number place) = Own number place end
+
+-- the same of runs, behind n letters
+abbrev Sane : Last → ℕ → ℕ → Outcome (List Run) → Type 0
+Sane l n end (accepted rs) = n + length (marked l rs) ≤ mostLetters
+Sane l n end (refused number place) = Own number place end
+
+pick : (b : Bool) (k x : ℕ) → k ≤ 7 → x ≤ 7 → cond b k x ≤ 7
+pick true k x h g = h
+pick false k x h g = g
+
+fault-most : (name : Bool) (depth n c : ℕ) (rest : List ℕ) → faultOf name depth n c rest ≤ 7
+unfolding faultOf
+fault-most name depth n c rest =
+    pick (ltb 11 c) 1 (from7 name depth n c rest) (lit≤ tt)
+    (pick (name && not (eqb c 0 || isLetter c)) 7 (from5 name depth n c rest) (lit≤ tt)
+    (pick (isOpener c && eqb depth deepest) 5 (from2 name depth n c rest) (lit≤ tt)
+    (pick (ltb (length rest) (width c)) 2 (from4 name depth n c rest) (lit≤ tt)
+    (pick (isLetter c && not (isScalar (codePoint c rest))) 4 (from6 name depth n c rest) (lit≤ tt)
+    (pick (ltb mostLetters (n + added name c)) 6 (from3 name depth n c rest) (lit≤ tt)
+    (pick (eqb c 0 && (not name && eqb depth 0)) 3 0 (lit≤ tt) (lit≤ tt)))))))
+
+end-sane : (l : Last) (n : ℕ) (around : List Style) (name : Bool) (place : ℕ) → n ≤ mostLetters → Sane l n place (atEnd around name place)
+end-sane l n [] true place h = record { least = lit≤ tt; most = lit≤ tt; on = omega arith }
+end-sane l n [] false place h = omega arith
+end-sane l n (s ∷ around) name place h = record { least = lit≤ tt; most = lit≤ tt; on = omega arith }
+
+after-sane : (l : Last) (n m end : ℕ) (rs : List Run) (o : Outcome (List Run)) → length (marked l rs) ≡ m
+    → Sane (lastAfter l rs) (n + m) end o
+    → Sane l n end (after rs o)
+after-sane l n m end rs (accepted qs) e h =
+    let a = ap length (marked-append l rs qs) ∙ length-append (marked l rs) (marked (lastAfter l rs) qs) in
+    omega arith
+after-sane l n m end rs (refused number place) e h = h
+
+-- one command, before what follows it
+command-sane : (c : ℕ) (rest : List ℕ) (f : Frame) (place n : ℕ) (l : Last) (o : Outcome (List Run)) → let rs = says (commandOf c rest) (f .style) (f .name) in
+    (n + added (f .name) c ≤ mostLetters → Sane (lastAfter l rs) (n + added (f .name) c) (place + 1 + length rest) o)
+    → Sane l n (place + suc (length rest)) (unless (faultOf (f .name) (length (f .around)) n c rest) place (after rs o))
+command-sane c rest f place n l o ih = go (faultOf (f .name) (length (f .around)) n c rest) refl
+  where
+    go : (k : ℕ) → faultOf (f .name) (length (f .around)) n c rest ≡ k
+        → Sane l n (place + suc (length rest)) (unless k place (after (says (commandOf c rest) (f .style) (f .name)) o))
+    go zero e =
+        let end : place + 1 + length rest ≡ place + suc (length rest) = omega arith in
+        let few = clean (f .name) (length (f .around)) n c rest e .few in
+        rw (← end) (after-sane l n _ _ (says (commandOf c rest) (f .style) (f .name)) o (says-added c rest (f .name) l (f .style)) (ih few))
+    go (suc k) e =
+        let most = fault-most (f .name) (length (f .around)) n c rest in
+        record { least = omega arith; most = omega arith; on = omega arith }
+
+read-sane : (l : List ℕ) (skip : ℕ) (f : Frame) (place n : ℕ) (la : Last) → n ≤ mostLetters → Sane la n (place + length l) (read skip f place n l)
+unfolding read
+read-sane [] skip f place n la h =
+    let e : place + 0 ≡ place = omega arith in
+    rw e (end-sane la n (f .around) (f .name) place h)
+read-sane (b ∷ rest) (suc skip) f place n la h =
+    let e : place + suc (length rest) ≡ place + 1 + length rest = omega arith in
+    rw e (read-sane rest skip f (place + 1) n la h)
+read-sane (c ∷ rest) zero f place n la h =
+    let command = commandOf c rest in
+    let g : Frame = next command (f .style) (f .around) (f .name) in
+    let m : ℕ = n + added (f .name) c in
+    command-sane c rest f place n la (read (width c) g (place + 1) m rest)
+    (λ few. read-sane rest (width c) g (place + 1) m (lastAfter la (says command (f .style) (f .name))) few)
+
+pub letters-bounded : (s : Style) (tape : List ℕ) → Bounded (length tape) (tapeLetters s tape)
+unfolding tapeLetters tapeRuns
+letters-bounded s tape = to (read 0 (frame s [] false) 0 0 tape) (read-sane tape 0 (frame s [] false) 0 0 (last s true) (omega arith))
+  where
+    to : (o : Outcome (List Run)) → Sane (last s true) 0 (0 + length tape) o → Bounded (length tape) (onAccepted lettersOf (onAccepted merge o))
+    to (accepted rs) h = let e = ap length (marked-merged s rs) in omega arith
+    to (refused number place) h = let on = h .on in record { least = h .least; most = h .most; on = omega arith }
