@@ -1,14 +1,14 @@
 -- What segments within the limits write are bytes.
 use mathlib.Core.Path.{_≡_, refl}
-use mathlib.Core.Bool.{Bool, true, false, _&&_, _||_}
+use mathlib.Core.Bool.{Bool, true, false, _&&_}
 use mathlib.Core.List.{List, [], _∷_, _++_}
-use Prim.Native.Nat.{ℕ, _/_, _%_, _≤_, _<_}
+use Prim.Native.Nat.{ℕ, _<_}
 use native.Mathlib.Omega.{arith}
 use borrow.Author.Tests.{ltb-true, leb-true}
 use lib.Dec.{lit<, ltb, leb}
 use Rattle.tape.specs.Style.{Opener, bold, italic, color, plain}
 use Rattle.tape.specs.Command.{isScalar}
-use Rattle.tape.specs.Segments.{Segment, Segments, text, lineBreak, timestamp, group, voice, none, _then_, letterBytes, lettersBytes, textBytes, nameBytes, openerBytes, written, writtenList, areScalars, isWritable, writable, writableList, Bytes}
+use Rattle.tape.specs.Segments.{Segment, Segments, text, lineBreak, timestamp, group, voice, none, _then_, letterBytes, lettersBytes, nameBytes, openerBytes, written, writtenList, areScalars, isWritable, writable, writableList, Bytes}
 use Rattle.tape.proofs.Styles.{split}
 
 bytes-append : (xs ys : List ℕ) → Bytes xs → Bytes ys → Bytes (xs ++ ys)

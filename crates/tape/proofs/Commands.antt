@@ -2,14 +2,14 @@
 use mathlib.Core.Path.{_≡_, _∙_, refl, sym, ap}
 use mathlib.Core.Bool.{Bool, true, false, cond, not, _&&_, _||_}
 use mathlib.Core.List.{List, [], _∷_}
-use Prim.Native.Nat.{ℕ, zero, suc, _+_, _≤_, _<_}
+use Prim.Native.Nat.{ℕ, zero, suc, _≤_, _<_}
 use native.Mathlib.Omega.{arith}
-use borrow.Author.Tests.{leb-true, leb-false, le-leb, lt-leb, ne-eqb, eq-eqb, eqb-false, not-false}
+use borrow.Author.Tests.{leb-true, leb-false, le-leb, lt-leb, ne-eqb, not-false}
 use lib.Dec.{leb, eqb}
 use lib.ListN.{length}
 use Rattle.tape.specs.declared.Style.{Style}
 use Rattle.tape.specs.Style.{Opener}
-use Rattle.tape.specs.Command.{deepest, codePoint, isLetter, isOpener, added, Command, text, opens, voice, timestamp, openerOf, commandOf}
+use Rattle.tape.specs.Command.{codePoint, isLetter, isOpener, added, Command, text, opens, voice, timestamp, openerOf, commandOf}
 use Rattle.tape.specs.Runs.{Run}
 use Rattle.tape.specs.Tape.{says}
 use Rattle.tape.specs.Marks.{Last, marked}

@@ -1,13 +1,13 @@
 -- Commands that neither open nor end anything.
-use mathlib.Core.Path.{_≡_, _∙_, refl, sym, ap, subst}
+use mathlib.Core.Path.{_≡_, refl}
 use mathlib.Core.Logic.{_⊎_, inl, inr, ⊎-elim}
 use mathlib.Core.Bool.{Bool, true, false}
 use mathlib.Core.List.{List, [], _∷_}
-use Prim.Native.Nat.{ℕ, _+_, _≤_, _<_}
+use Prim.Native.Nat.{ℕ, _+_, _<_}
 use native.Mathlib.Omega.{arith}
-use borrow.Author.Tests.{eqb-true, eqb-false, eq-eqb}
+use borrow.Author.Tests.{eqb-true, eqb-false}
 use lib.Dec.{eqb}
-use lib.ListN.{length, length-drop}
+use lib.ListN.{length-drop}
 use Rattle.tape.specs.declared.Style.{Style}
 use Rattle.tape.specs.declared.State.{State}
 use Rattle.tape.specs.Command.{codePoint, isLetter, isOpener, Command, text, timestamp, commandOf}

@@ -1,11 +1,11 @@
 -- For the layers above: how many letters there are, and how one is read back out of the workspace.
-use mathlib.Core.Path.{_≡_, _∙_, refl, sym, ap, subst}
+use mathlib.Core.Path.{_≡_, _∙_, refl, ap}
 use mathlib.Core.Bool.{Bool, true, false, cond}
 use mathlib.Core.List.{List, [], _∷_, _++_}
-use Prim.Native.Nat.{ℕ, zero, suc, _+_, _*_, _/_, _%_, _≤_, _<_}
+use Prim.Native.Nat.{ℕ, zero, suc, _+_, _*_, _/_, _≤_, _<_}
 use native.Mathlib.Omega.{arith}
-use lib.ListN.{length, take, drop, getD, List·getD-append, length-append}
-use lib.Seq.{getD-append-add, sets, sets-eq}
+use lib.ListN.{length, drop, getD, List·getD-append}
+use lib.Seq.{getD-append-add, sets-eq}
 use Rattle.tape.specs.Runs.{Letter}
 use Rattle.tape.specs.Stored.{cellOf, cells, stored, byteAt, codeAt, odd, letterAt}
 use Rattle.tape.proofs.Stores.{length-cells}

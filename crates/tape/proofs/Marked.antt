@@ -1,13 +1,13 @@
 -- The letters that the reader makes, one run after the other, are those of the merged runs.
-use mathlib.Core.Path.{_≡_, _∙_, refl, sym, ap, ap₂}
-use mathlib.Core.Bool.{Bool, true, false, not, cond, _&&_, _||_}
+use mathlib.Core.Path.{_≡_, refl, sym, ap}
+use mathlib.Core.Bool.{Bool, true, false, _&&_, _||_}
 use mathlib.Core.List.{List, [], _∷_, _++_, append-assoc}
 use Prim.Native.Nat.{ℕ}
 use Rattle.tape.specs.declared.Style.{Style}
 use Rattle.tape.specs.Style.{sameStyle}
 use Rattle.tape.specs.Runs.{Run, run, mergeInto, merge, Letter, lettersIn, lettersOf}
-use Rattle.tape.specs.Marks.{Last, last, starts, empty, lastWith, marked}
-use Rattle.tape.proofs.Styles.{same-eq, same-refl}
+use Rattle.tape.specs.Marks.{last, empty, marked}
+use Rattle.tape.proofs.Styles.{same-eq}
 
 or-false : (b : Bool) → (b || false) ≡ b
 or-false true = refl

@@ -12,7 +12,7 @@ use Rattle.tape.specs.declared.Style.{Style}
 use Rattle.tape.specs.declared.State.{State}
 use Rattle.tape.specs.declared.Step.{Step}
 use Rattle.tape.specs.declared.Step.the-variants.{Done, Refused}
-use Rattle.tape.specs.Command.{mostLetters, width, added, faultOf, Command, commandOf}
+use Rattle.tape.specs.Command.{mostLetters, added, faultOf, Command, commandOf}
 use Rattle.tape.specs.Runs.{Run}
 use Rattle.tape.specs.Tape.{Frame, frame, leave, says, next, after}
 use Rattle.tape.specs.Marks.{marked}

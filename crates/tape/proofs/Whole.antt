@@ -1,8 +1,8 @@
 -- From the outer list to the call.
 use mathlib.Core.Path.{_≡_, _∙_, refl, sym, ap, subst}
-use mathlib.Core.Bool.{Bool, true, false}
-use mathlib.Core.List.{List, [], _++_, append-nil}
-use Prim.Native.Nat.{ℕ, _+_, _≤_, _<_}
+use mathlib.Core.Bool.{true}
+use mathlib.Core.List.{List, [], append-nil}
+use Prim.Native.Nat.{ℕ, _≤_, _<_}
 use native.Mathlib.Nat.{zero-add}
 use native.Mathlib.Omega.{arith}
 use borrow.Author.Tests.{lt-ltb, le-ltb}
@@ -12,10 +12,10 @@ use Rattle.tape.specs.declared.State.{State}
 use Rattle.tape.specs.declared.Answer.{Answer}
 use Rattle.tape.specs.Outcome.{Outcome, accepted, refused, onAccepted}
 use Rattle.tape.specs.Runs.{Run, merge, Letter, lettersOf}
-use Rattle.tape.specs.Tape.{frame, leave, mostBytes, leastRoom, after, tapeRuns, tapeLetters}
+use Rattle.tape.specs.Tape.{leave, mostBytes, leastRoom, after, tapeRuns, tapeLetters, tapeRead}
 use Rattle.tape.specs.Marks.{last, marked}
 use Rattle.tape.specs.Stored.{stored}
-use Rattle.tape.specs.Reading.{wrote, holding, inList, Went, Stopped, from, answerOf, Left, tapeRead, TapeRead}
+use Rattle.tape.specs.Reading.{inList, Went, Stopped, from, answerOf, Left, TapeRead}
 use Rattle.tape.proofs.Marked.{marked-merged}
 use Rattle.tape.proofs.Bounds.{Bounded, letters-bounded}
 use Rattle.tape.proofs.Steps.{end-from}

@@ -1,23 +1,21 @@
 -- The tape that segments write means the runs that walking them gives.
 use mathlib.Core.Path.{_≡_, _∙_, refl, sym, ap, ap₂, subst}
-use mathlib.Core.Bool.{Bool, true, false, cond, not, _&&_, _||_}
+use mathlib.Core.Bool.{Bool, true, false, not, _&&_, _||_}
 use mathlib.Core.List.{List, [], _∷_, _++_, append-assoc, append-nil}
-use Prim.Native.Nat.{ℕ, zero, suc, _+_, _*_, _/_, _%_, _≤_, _<_, max}
+use Prim.Native.Nat.{ℕ, suc, _+_, _/_, _%_, _≤_, _<_}
 use native.Mathlib.Nat.{add-zero, add-assoc}
-use native.Mathlib.Numerals.{add-one}
 use native.Mathlib.Omega.{arith}
-use borrow.Author.Tests.{lt-ltb, le-ltb, ne-eqb, ltb-true, ltb-false}
-use lib.Dec.{T, ltb, eqb, lit<, lit≤}
+use borrow.Author.Tests.{le-ltb, ne-eqb}
+use lib.Dec.{ltb, eqb, lit<}
 use lib.ListN.{length, length-append}
 use lib.Seq.{drop-at}
 use Rattle.tape.specs.declared.Style.{Style}
-use Rattle.tape.specs.Outcome.{Outcome, accepted, onAccepted}
+use Rattle.tape.specs.Outcome.{accepted, onAccepted}
 use Rattle.tape.specs.Style.{Opener, bold, italic, color, plain, inside}
 use Rattle.tape.specs.Command.{deepest, mostLetters, width, codePoint, isLetter, isOpener, isScalar, added, Command, ends, text, opens, voice, timestamp, commandOf}
 use Rattle.tape.specs.Runs.{Run, run, merge, lettersOf}
-use Rattle.tape.specs.Tape.{Frame, frame, says, next, after, read, tapeRuns, tapeLetters, mostBytes, leastRoom}
-use Rattle.tape.specs.Segments.{Segment, Segments, lineBreak, group, none, _then_, walk, walkList, letterBytes, lettersBytes, textBytes, nameBytes, openerBytes, written, writtenList, letters, lettersList, depth, depthList, areScalars, isWritable, writable, writableList, Within}
-use Rattle.tape.specs.Reading.{tapeRead}
+use Rattle.tape.specs.Tape.{Frame, frame, says, next, after, read, tapeRuns, tapeLetters, mostBytes, leastRoom, tapeRead}
+use Rattle.tape.specs.Segments.{Segment, Segments, lineBreak, group, none, _then_, walk, walkList, letterBytes, lettersBytes, nameBytes, openerBytes, written, writtenList, letters, lettersList, depth, depthList, areScalars, isWritable, writable, writableList, Within}
 use Rattle.tape.proofs.Alike.{Alike, alike-merge, alike-append, alike-trans, alike-refl, spelled, alike-spelled, alike-named}
 use Rattle.tape.proofs.Commands.{letter-command, letter-flat, letter-adds}
 use Rattle.tape.proofs.Faults.{Clean, no-fault}

@@ -10,9 +10,10 @@ use Rattle.tape.specs.declared.Step.{Step}
 use Rattle.tape.specs.declared.Step.the-variants.{Done, Refused}
 use Rattle.tape.specs.declared.Answer.{Answer}
 use Rattle.tape.specs.Outcome.{Outcome, accepted, refused}
-use Rattle.tape.specs.Command.{mostLetters, width, isOpener, added, faultOf, Command, commandOf}
+use Rattle.tape.specs.Style.{inside}
+use Rattle.tape.specs.Command.{mostLetters, width, isOpener, added, faultOf, Command, commandOf, openerOf}
 use Rattle.tape.specs.Runs.{Run, Letter}
-use Rattle.tape.specs.Tape.{Frame, frame, leave, after, read, tapeLetters, refuseLengths}
+use Rattle.tape.specs.Tape.{Frame, frame, leave, says, after, read, tapeRead}
 use Rattle.tape.specs.Marks.{Last, last, lastAfter, marked}
 use Rattle.tape.specs.Stored.{stored}
 
@@ -42,12 +43,25 @@ pub record Wrote (ws ws' : List ℕ) (st st' : State) (rs : List Run) (at : ℕ)
 
 -- ---- what is asked
 
--- the command at a state's place, and the bytes after its first
+-- the command byte at a place, and the bytes behind it
+abbrev pub byteAt : List ℕ → ℕ → ℕ
+byteAt tape at = getD tape at 0
+
+abbrev pub restAt : List ℕ → ℕ → List ℕ
+restAt tape at = drop (at + 1) tape
+
+-- those at a state's place, and what they stand for
 abbrev pub byteOf : List ℕ → State → ℕ
-byteOf tape st = getD tape (st .at) 0
+byteOf tape st = byteAt tape (st .at)
 
 abbrev pub restOf : List ℕ → State → List ℕ
-restOf tape st = drop (st .at + 1) tape
+restOf tape st = restAt tape (st .at)
+
+abbrev pub commandAt : List ℕ → State → Command
+commandAt tape st = commandOf (byteOf tape st) (restOf tape st)
+
+abbrev pub insideAt : List ℕ → State → Style → Style
+insideAt tape st s = inside (openerOf (byteOf tape st) (restOf tape st)) s
 
 -- the place after the command and its operands
 abbrev pub placeAfter : List ℕ → State → ℕ
@@ -118,6 +132,22 @@ abbrev pub ToTheEnd : List ℕ → ℕ → Step → Type 0
 ToTheEnd tape depth (Done b) = depth ≡ 0 → length tape ≤ b .at
 ToTheEnd tape depth (Refused number place) = Unit
 
+-- a leaf, a name, an opener with its name, a segment and a list were read
+abbrev pub LeafRead : List ℕ → List ℕ → List ℕ → State → Style → State → Type 0
+LeafRead tape ws ws' a s b = Wrote ws ws' a b (says (commandAt tape a) s false) (placeAfter tape a)
+
+abbrev pub NameRead : List ℕ → List ℕ → List ℕ → ℕ → State → Style → Step → Type 0
+NameRead tape ws ws' depth a s r = Reads tape ws ws' depth (inName s) (opened s s) a r
+
+abbrev pub OpenerRead : List ℕ → List ℕ → List ℕ → ℕ → State → Style → Step → Type 0
+OpenerRead tape ws ws' depth a s r = Reads tape ws ws' depth (inList s) (opened (insideAt tape a s) s) a r × Onward a r
+
+abbrev pub SegmentRead : List ℕ → List ℕ → List ℕ → ℕ → State → Style → Step → Type 0
+SegmentRead tape ws ws' depth a s r = Reads tape ws ws' depth (inList s) (inList s) a r × Onward a r
+
+abbrev pub ListRead : List ℕ → List ℕ → List ℕ → ℕ → State → Style → Step → Type 0
+ListRead tape ws ws' depth a s r = Reads tape ws ws' depth (inList s) (leave s) a r × ToTheEnd tape depth r
+
 -- ---- the call
 
 -- the answer that says an outcome: how many letters there are, or the refusal's number and place
@@ -130,10 +160,6 @@ answerOf (refused number place) = Answer.Refused number place
 abbrev pub Left : Outcome (List Letter) → List ℕ → List ℕ → Type 0
 Left (accepted ls) ws ws' = ws' ≡ stored ws 0 ls
 Left (refused number place) ws ws' = 10 ≤ number → ws' ≡ ws
-
--- what a call of the reader comes to
-unfoldable pub tapeRead : Style → ℕ → List ℕ → Outcome (List Letter)
-tapeRead s room tape = refuseLengths tape room (tapeLetters s tape)
 
 pub record TapeRead (tape ws ws' : List ℕ) (s : Style) (answer : Answer) : Type 0 where
   pub answers : answer ≡ answerOf (tapeRead s (length ws) tape)

@@ -10,7 +10,7 @@ use lib.Dec.{ltb}
 use lib.ListN.{length}
 use Rattle.tape.specs.declared.Style.{Style}
 use Rattle.tape.specs.Outcome.{Outcome, accepted, refused, refuseIf, onAccepted}
-use Rattle.tape.specs.Style.{Opener, inside}
+use Rattle.tape.specs.Style.{inside}
 use Rattle.tape.specs.Command.{width, added, faultOf, Command, ends, text, opens, voice, timestamp, commandOf}
 use Rattle.tape.specs.Runs.{Run, run, merge, Letter, lettersOf}
 
@@ -86,6 +86,10 @@ mostBytes = 16384
 abbrev pub leastRoom : ℕ
 leastRoom = 65536
 
--- what is refused of a tape and of the `room` bytes of a workspace before the tape is read: 10 and 11
+-- what is refused of a tape and of a workspace of `room` bytes before the tape is read: 10, and then 11
 abbrev pub refuseLengths : {A : Type 0} → List ℕ → ℕ → Outcome A → Outcome A
 refuseLengths tape room o = refuseIf (ltb mostBytes (length tape)) 10 0 (refuseIf (ltb room leastRoom) 11 0 o)
+
+-- what reading a tape into a workspace comes to
+unfoldable pub tapeRead : Style → ℕ → List ℕ → Outcome (List Letter)
+tapeRead s room tape = refuseLengths tape room (tapeLetters s tape)

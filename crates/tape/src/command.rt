@@ -2,10 +2,11 @@
 ghost use mathlib.Core.Path.{_≡_};
 ghost use mathlib.Core.Bool.{not, _&&_, _||_};
 ghost use Prim.Native.Nat.{_+_, _≤_, _<_};
-ghost use lib.ListN.{length, getD, take, drop};
+ghost use lib.ListN.{length, take, drop};
 ghost use lib.Dec.{eqb};
 ghost use Rattle.tape.specs.Style.{inside};
 ghost use Rattle.tape.specs.Command.{deepest, mostLetters, width, numberFrom, codePoint, isLetter, isOpener, isScalar, added, faultOf, openerOf};
+ghost use Rattle.tape.specs.Reading.{byteAt, restAt};
 use crate::Style;
 
 const DEEPEST: usize = 16;
@@ -59,8 +60,8 @@ fn number_at(tape: &[u8], from: usize, w: usize) -> u32
 
 // The code point of the letter command at a place.
 pub fn code_point(tape: &[u8], at: usize) -> u32
-    requires { ⌜ (getD (now tape) at 0 < 12) × (at + width (getD (now tape) at 0) < length (now tape)) ⌝ }
-    ensures { λ r. ⌜ (r ≡ codePoint (getD (now (tape .entry)) at 0) (drop (at + 1) (now (tape .entry)))) × (r < 16777216) ⌝ }
+    requires { ⌜ (byteAt (now tape) at < 12) × (at + width (byteAt (now tape) at) < length (now tape)) ⌝ }
+    ensures { λ r. ⌜ (r ≡ codePoint (byteAt (now (tape .entry)) at) (restAt (now (tape .entry)) at)) × (r < 16777216) ⌝ }
 {
     number_at(tape, at + 1, operand_width(tape[at]))
 }
@@ -103,8 +104,8 @@ fn is_too_deep(c: u8, depth: usize) -> bool
 
 // A letter command with no Unicode scalar value.
 fn is_no_scalar(tape: &[u8], at: usize) -> bool
-    requires { ⌜ (getD (now tape) at 0 < 12) × (at + width (getD (now tape) at 0) < length (now tape)) ⌝ }
-    ensures { λ r. ⌜ r ≡ (isLetter (getD (now (tape .entry)) at 0) && not (isScalar (codePoint (getD (now (tape .entry)) at 0) (drop (at + 1) (now (tape .entry)))))) ⌝ }
+    requires { ⌜ (byteAt (now tape) at < 12) × (at + width (byteAt (now tape) at) < length (now tape)) ⌝ }
+    ensures { λ r. ⌜ r ≡ (isLetter (byteAt (now (tape .entry)) at) && not (isScalar (codePoint (byteAt (now (tape .entry)) at) (restAt (now (tape .entry)) at)))) ⌝ }
 {
     if is_letter(tape[at]) {
         return !is_scalar(code_point(tape, at));
@@ -128,7 +129,7 @@ fn is_stray_end(c: u8, name: bool, depth: usize) -> bool
 // The number of the first fault of the command at a place, or 0.
 pub fn fault(tape: &[u8], at: usize, count: usize, name: bool, depth: usize) -> u8
     requires { ⌜ (at < length (now tape)) × (count ≤ mostLetters) ⌝ }
-    ensures { λ r. ⌜ r ≡ faultOf name depth count (getD (now (tape .entry)) at 0) (drop (at + 1) (now (tape .entry))) ⌝ }
+    ensures { λ r. ⌜ r ≡ faultOf name depth count (byteAt (now (tape .entry)) at) (restAt (now (tape .entry)) at) ⌝ }
 {
     let c = tape[at];
     if 0x0b < c {
@@ -157,8 +158,8 @@ pub fn fault(tape: &[u8], at: usize, count: usize, name: bool, depth: usize) -> 
 
 // The style inside a list that the command at a place opens.
 pub fn style_inside(tape: &[u8], at: usize, s: Style) -> Style
-    requires { ⌜ at + width (getD (now tape) at 0) < length (now tape) ⌝ }
-    ensures { λ r. ⌜ r ≡ inside (openerOf (getD (now (tape .entry)) at 0) (drop (at + 1) (now (tape .entry)))) s ⌝ }
+    requires { ⌜ at + width (byteAt (now tape) at) < length (now tape) ⌝ }
+    ensures { λ r. ⌜ r ≡ inside (openerOf (byteAt (now (tape .entry)) at) (restAt (now (tape .entry)) at)) s ⌝ }
 {
     let c = tape[at];
     if c == 0x06 {

@@ -69,11 +69,11 @@ pub fn same_style(a: Style, b: Style) -> bool
 
 // Where the reader is: the place in the tape, how many letters it has stored, the style of the last
 // run, and whether that run has no letter yet.
-pub struct State {
-    pub at: usize,
-    pub count: usize,
-    pub last: Style,
-    pub fresh: bool,
+struct State {
+    at: usize,
+    count: usize,
+    last: Style,
+    fresh: bool,
 }
 
 impl State {
@@ -102,9 +102,9 @@ impl State {
         let fresh = self.begins(s);
         State {
             at: next,
-            count: self.count,
             last: s,
             fresh,
+            ..self
         }
     }
 
@@ -134,7 +134,7 @@ impl State {
 }
 
 // How a part of the tape was read.
-pub enum Step {
+enum Step {
     Done(State),
     // A refusal's number and place.
     Refused(u8, usize),

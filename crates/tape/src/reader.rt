@@ -1,12 +1,10 @@
 // The reader's parts: a list is read by reading segments, and a segment by reading its list.
 ghost use mathlib.Core.Path.{_≡_};
 ghost use mathlib.Core.Bool.{true, false};
-ghost use Prim.Native.Nat.{_+_, _≤_, _<_};
+ghost use Prim.Native.Nat.{_≤_, _<_};
 ghost use lib.ListN.{length};
-ghost use Rattle.tape.specs.Style.{inside};
-ghost use Rattle.tape.specs.Command.{deepest, isOpener, commandOf, openerOf};
-ghost use Rattle.tape.specs.Tape.{says, leave};
-ghost use Rattle.tape.specs.Reading.{Wrote, byteOf, restOf, placeAfter, Ready, Sound, Leaf, inList, inName, opened, Reads, Onward, ToTheEnd};
+ghost use Rattle.tape.specs.Command.{deepest, isOpener};
+ghost use Rattle.tape.specs.Reading.{byteOf, Ready, Sound, Leaf, LeafRead, NameRead, OpenerRead, SegmentRead, ListRead};
 use crate::State;
 use crate::Step;
 use crate::Style;
@@ -15,7 +13,7 @@ use crate::command;
 // A text, a break or a time mark.
 fn read_leaf(tape: &[u8], ws: &mut [u8], st: State, style: Style) -> State
     requires { ⌜ Leaf (now tape) (now ws) st ⌝ }
-    ensures { λ r. ⌜ Wrote (now (ws .entry)) (now (ws .exit)) st r (says (commandOf (byteOf (now (tape .entry)) st) (restOf (now (tape .entry)) st)) style false) (placeAfter (now (tape .entry)) st) ⌝ }
+    ensures { λ r. ⌜ LeafRead (now (tape .entry)) (now (ws .entry)) (now (ws .exit)) st style r ⌝ }
 {
     let at = st.at;
     let c = tape[at];
@@ -32,10 +30,17 @@ fn read_leaf(tape: &[u8], ws: &mut [u8], st: State, style: Style) -> State
     st.put(ws, style, command::code_point(tape, at), next)
 }
 
+// The tape ends in a list or in a name.
+fn cut_off(tape: &[u8]) -> Step
+    ensures { λ r. ⌜ r ≡ Step.Refused 3 (length (now (tape .entry))) ⌝ }
+{
+    Step::Refused(3, tape.len())
+}
+
 // A voice's name up to its 00, and the ": " that follows it: the voice's list opens.
 fn read_name(tape: &[u8], ws: &mut [u8], st: State, style: Style, depth: usize) -> Step
     requires { ⌜ Ready (now tape) (now ws) st ⌝ }
-    ensures { λ r. ⌜ Reads (now (tape .entry)) (now (ws .entry)) (now (ws .exit)) depth (inName style) (opened style style) st r ⌝ }
+    ensures { λ r. ⌜ NameRead (now (tape .entry)) (now (ws .entry)) (now (ws .exit)) depth st style r ⌝ }
 {
     let mut s = st;
     while s.at < tape.len() {
@@ -49,13 +54,13 @@ fn read_name(tape: &[u8], ws: &mut [u8], st: State, style: Style, depth: usize) 
         }
         s = read_leaf(tape, ws, s, style);
     }
-    Step::Refused(3, tape.len())
+    cut_off(tape)
 }
 
 // Passes an opener, and the name of a voice: a list opens.
 fn read_opener(tape: &[u8], ws: &mut [u8], st: State, style: Style, depth: usize) -> Step
     requires { ⌜ Sound (now tape) (now ws) st false depth × (isOpener (byteOf (now tape) st) ≡ true) ⌝ }
-    ensures { λ r. ⌜ Reads (now (tape .entry)) (now (ws .entry)) (now (ws .exit)) depth (inList style) (opened (inside (openerOf (byteOf (now (tape .entry)) st) (restOf (now (tape .entry)) st)) style) style) st r × Onward st r ⌝ }
+    ensures { λ r. ⌜ OpenerRead (now (tape .entry)) (now (ws .entry)) (now (ws .exit)) depth st style r ⌝ }
 {
     let at = st.at;
     let c = tape[at];
@@ -69,7 +74,7 @@ fn read_opener(tape: &[u8], ws: &mut [u8], st: State, style: Style, depth: usize
 // A list up to its 00, or to the tape's end where no list is around it.
 pub fn read_list(tape: &[u8], ws: &mut [u8], st: State, style: Style, depth: usize) -> Step
     requires { ⌜ Ready (now tape) (now ws) st × (depth ≤ deepest) ⌝ }
-    ensures { λ r. ⌜ Reads (now (tape .entry)) (now (ws .entry)) (now (ws .exit)) depth (inList style) (leave style) st r × ToTheEnd (now (tape .entry)) depth r ⌝ }
+    ensures { λ r. ⌜ ListRead (now (tape .entry)) (now (ws .entry)) (now (ws .exit)) depth st style r ⌝ }
 {
     let mut s = st;
     while s.at < tape.len() {
@@ -93,13 +98,13 @@ pub fn read_list(tape: &[u8], ws: &mut [u8], st: State, style: Style, depth: usi
     if depth == 0 {
         return Step::Done(s);
     }
-    Step::Refused(3, tape.len())
+    cut_off(tape)
 }
 
 // One segment, with its list where it has one.
 fn read_segment(tape: &[u8], ws: &mut [u8], st: State, style: Style, depth: usize) -> Step
     requires { ⌜ Sound (now tape) (now ws) st false depth × (0 < byteOf (now tape) st) × (depth ≤ deepest) ⌝ }
-    ensures { λ r. ⌜ Reads (now (tape .entry)) (now (ws .entry)) (now (ws .exit)) depth (inList style) (inList style) st r × Onward st r ⌝ }
+    ensures { λ r. ⌜ SegmentRead (now (tape .entry)) (now (ws .entry)) (now (ws .exit)) depth st style r ⌝ }
 {
     let at = st.at;
     if !command::is_opener(tape[at]) {

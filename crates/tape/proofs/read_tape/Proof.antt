@@ -1,8 +1,7 @@
 use mathlib.Core.Path.{_≡_, refl, subst}
 use borrow.Author.Needs.{needs}
 use Rattle.tape.specs.declared.Step.{Step}
-use Rattle.tape.specs.Tape.{leave}
-use Rattle.tape.specs.Reading.{inList, Reads, ToTheEnd}
+use Rattle.tape.specs.Reading.{ListRead}
 use Rattle.tape.proofs.Whole.{start, too-long, too-small, tape-refused, tape-accepted}
 use Rattle.tape.proofs.read_tape.Statement.{statement}
 use Rattle.tape.proofs.read_tape.Tie as tie
@@ -30,11 +29,11 @@ same-length c = search needs
 
 -- the outer list was read
 list : (c : tie.After-read-list) {r : Step} → c .read-list .result ≡ r → let a = c .before .before .before .before .before .before .args in
-    Reads (a .tape .now) (a .ws .now) (c .read-list .last .1 .0) 0 (inList (a .style)) (leave (a .style)) (start (a .style)) r × ToTheEnd (a .tape .now) 0 r
+    ListRead (a .tape .now) (a .ws .now) (c .read-list .last .1 .0) 0 (start (a .style)) (a .style) r
 list c e =
     let a = c .before .before .before .before .before .before .args in
     subst
-    (λ (r : Step). Reads (a .tape .now) (a .ws .now) (c .read-list .last .1 .0) 0 (inList (a .style)) (leave (a .style)) (start (a .style)) r × ToTheEnd (a .tape .now) 0 r)
+    (λ (r : Step). ListRead (a .tape .now) (a .ws .now) (c .read-list .last .1 .0) 0 (start (a .style)) (a .style) r)
     e
     (c .read-list .ensures)
 

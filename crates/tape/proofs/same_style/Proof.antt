@@ -1,7 +1,6 @@
 use mathlib.Core.Path.{_≡_}
 use mathlib.Core.Bool.{true, false, Bool·beq}
 use borrow.Author.Tests.{not-true, not-false, eq-eqb, ne-eqb}
-use lib.Dec.{eqb}
 use Rattle.tape.specs.Style.{sameStyle}
 use Rattle.tape.proofs.same_style.Statement.{statement}
 use Rattle.tape.proofs.same_style.Tie as tie

@@ -1,12 +1,11 @@
 use mathlib.Core.Path.{_≡_, _∙_, sym}
-use mathlib.Core.Bool.{Bool, true, false}
+use mathlib.Core.Bool.{Bool}
 use mathlib.Core.List.{List}
 use Prim.Native.Nat.{ℕ, _+_}
 use borrow.Author.Needs.{needs}
 use borrow.Author.Tests.{lt-ltb, le-ltb}
-use lib.Dec.{ltb}
-use lib.ListN.{length, getD, drop, length-drop}
-use Rattle.tape.specs.Command.{mostLetters, width, added, faultOf}
+use lib.ListN.{getD, drop, length-drop}
+use Rattle.tape.specs.Command.{faultOf}
 use Rattle.tape.proofs.Faults.{from3, from6, from4, from2, from5, from7}
 use Rattle.tape.proofs.command.fault.Statement.{statement}
 use Rattle.tape.proofs.command.fault.Tie as tie

@@ -1,6 +1,5 @@
 use mathlib.Core.Path.{_≡_, _∙_, refl, sym, ap, subst}
 use mathlib.Core.Bool.{true, false}
-use mathlib.Core.List.{List}
 use native.Mathlib.Nat.{add-zero}
 use native.Mathlib.Omega.{arith}
 use borrow.Author.Needs.{needs}
@@ -9,16 +8,15 @@ use lib.ListN.{length, length-drop}
 use Rattle.tape.specs.declared.State.{State}
 use Rattle.tape.specs.declared.Step.{Step}
 use Rattle.tape.specs.Outcome.{refused}
-use Rattle.tape.specs.Style.{inside}
-use Rattle.tape.specs.Command.{isOpener, openerOf, ends, commandOf}
+use Rattle.tape.specs.Command.{isOpener, ends, commandOf}
 use Rattle.tape.specs.Tape.{leave}
-use Rattle.tape.specs.Reading.{byteOf, restOf, inList, opened, Sound, Went, Reads, Onward}
+use Rattle.tape.specs.Reading.{byteOf, inList, Sound, Went, SegmentRead, OpenerRead}
 use Rattle.tape.proofs.Commands.{positive}
 use Rattle.tape.proofs.Faults.{clean, not-outer, not-deepest}
 use Rattle.tape.proofs.Leaves.{leaf, went-leaf}
 use Rattle.tape.proofs.Steps.{end-from, end-deep}
 use Rattle.tape.proofs.Went.{wrote-length, went-none, went-then, went-stopped, stopped-fault, went-command, then-reads, inner-reads, went-outer, onward}
-use Prim.Native.Nat.{ℕ, _+_, _*_, _-_, _≤_, _<_}
+use Prim.Native.Nat.{ℕ, _+_, _*_, _-_, _<_}
 use borrow.Fn.Kinds.{In}
 use borrow.Fn.PlainCycle.{Measures, is, falls, and}
 use Rattle.tape.proofs.reader.read_list.Reads as read-list
@@ -32,6 +30,7 @@ use Rattle.tape.proofs.command.fault.Reads as fault-reads
 use Rattle.tape.proofs.command.is_opener.Reads as is-opener-reads
 use Rattle.tape.proofs.command.style_inside.Reads as style-inside-reads
 use Rattle.tape.proofs.reader.read_opener.Reads as read-opener-reads
+use Rattle.tape.proofs.reader.cut_off.Reads as cut-off-reads
 use Rattle.tape.proofs.reader.read_leaf.Reads as read-leaf-reads
 use Rattle.tape.proofs.reader.+read_list+read_segment.{statement}
 use Rattle.tape.proofs.reader.+read_list+read_segment.Tie.{close}
@@ -62,7 +61,7 @@ read-segment-below t =
     read-segment.Pre
 
 abbrev list-claims : ℕ → read-list-lts.Claims
-list-claims t = (fault-reads.Asked, fault-reads.Learnt, onto-reads.Asked, onto-reads.Learnt, read-segment-below t, read-segment.Post)
+list-claims t = (fault-reads.Asked, fault-reads.Learnt, onto-reads.Asked, onto-reads.Learnt, read-segment-below t, read-segment.Post, cut-off-reads.Asked, cut-off-reads.Learnt)
 
 abbrev segment-claims : ℕ → read-segment-lts.Claims
 segment-claims t = (is-opener-reads.Asked, is-opener-reads.Learnt, read-leaf-reads.Asked, read-leaf-reads.Learnt, read-opener-reads.Asked, read-opener-reads.Learnt, style-inside-reads.Asked, style-inside-reads.Learnt, read-list-below t, read-list.Post)
@@ -144,12 +143,12 @@ read-list-enum-known-after t c = search needs
 -- a segment was read
 segment : (t : ℕ) (c : read-list-lts.After-read-segment (list-claims t) (read-list-at t) read-list.Post read-list-Inv-loop read-list-μ-loop) {r : Step} → c .read-segment .result ≡ r → let l = c .before .before .before .before .before .before .before .before .loop in
     let a = c .before .before .before .before .before .before .before .before .before .before .before .args in
-    Reads (a .tape .now) (l .ws) (c .read-segment .last .1 .0) (a .depth) (inList (a .style)) (inList (a .style)) (l .s) r × Onward (l .s) r
+    SegmentRead (a .tape .now) (l .ws) (c .read-segment .last .1 .0) (a .depth) (l .s) (a .style) r
 segment t c e =
     let l = c .before .before .before .before .before .before .before .before .loop in
     let a = c .before .before .before .before .before .before .before .before .before .before .before .args in
     subst
-    (λ (r : Step). Reads (a .tape .now) (l .ws) (c .read-segment .last .1 .0) (a .depth) (inList (a .style)) (inList (a .style)) (l .s) r × Onward (l .s) r)
+    (λ (r : Step). SegmentRead (a .tape .now) (l .ws) (c .read-segment .last .1 .0) (a .depth) (l .s) (a .style) r)
     e
     (c .read-segment .ensures)
 
@@ -184,19 +183,24 @@ read-list-same-length-4 t c = wrote-length (c .before .before .before .loop .inv
 read-list-returns-4 : (t : ℕ) → read-list-lts.Need-returns-4 (list-claims t) (read-list-at t) read-list.Post read-list-Inv-loop read-list-μ-loop
 read-list-returns-4 t c = (went-outer (c .if4 .taken) (c .before .before .before .loop .inv), λ d. c .before .if1 .left)
 
+read-list-cut-off-requires : (t : ℕ) → read-list-lts.Need-cut-off-requires (list-claims t) (read-list-at t) read-list.Post read-list-Inv-loop read-list-μ-loop
+read-list-cut-off-requires t c κs = search needs
+
 read-list-same-length-5 : (t : ℕ) → read-list-lts.Need-same-length-5 (list-claims t) (read-list-at t) read-list.Post read-list-Inv-loop read-list-μ-loop
-read-list-same-length-5 t c = wrote-length (c .before .before .before .loop .inv .stored)
+read-list-same-length-5 t c = wrote-length (c .before .before .before .before .loop .inv .stored)
 
 read-list-returns-5 : (t : ℕ) → read-list-lts.Need-returns-5 (list-claims t) (read-list-at t) read-list.Post read-list-Inv-loop read-list-μ-loop
 read-list-returns-5 t c =
-    let l = c .before .before .before .loop in
-    let a = c .before .before .before .before .before .before .args in
+    let o = c .before in
+    let l = o .before .before .before .loop in
+    let a = o .before .before .before .before .before .before .args in
     let within = l .inv .within in
-    let left = c .before .if1 .left in
-    let end : l .s .at ≡ length (a .tape .now) = omega arith in (
+    let left = o .before .if1 .left in
+    let end : l .s .at ≡ length (a .tape .now) = omega arith in
+    rw (c .cut-off .ensures) (
       went-stopped (a .tape .now) (a .depth) (l .inv) λ around d.
           end-from (a .tape .now) (inList (a .style) around) (l .s .at) (l .s .count) left
-          ∙ end-deep around false (l .s .at) (λ e. c .if4 .left (sym d ∙ e))
+          ∙ end-deep around false (l .s .at) (λ e. o .if4 .left (sym d ∙ e))
           ∙ ap (refused 3) end,
       tt,
     )
@@ -241,13 +245,11 @@ read-segment-enum-known-opened t c = search needs
 
 -- the opener was read
 opener : (t : ℕ) (c : read-segment-lts.After-read-opener (segment-claims t) (read-segment-at t) read-segment.Post) {r : Step} → c .read-opener .result ≡ r → let a = c .before .before .before .before .before .before .before .args in
-    let style = inside (openerOf (byteOf (a .tape .now) (a .st)) (restOf (a .tape .now) (a .st))) (a .style) in
-    Reads (a .tape .now) (a .ws .now) (c .read-opener .last .1 .0) (a .depth) (inList (a .style)) (opened style (a .style)) (a .st) r × Onward (a .st) r
+    OpenerRead (a .tape .now) (a .ws .now) (c .read-opener .last .1 .0) (a .depth) (a .st) (a .style) r
 opener t c e =
     let a = c .before .before .before .before .before .before .before .args in
-    let style = inside (openerOf (byteOf (a .tape .now) (a .st)) (restOf (a .tape .now) (a .st))) (a .style) in
     subst
-    (λ (r : Step). Reads (a .tape .now) (a .ws .now) (c .read-opener .last .1 .0) (a .depth) (inList (a .style)) (opened style (a .style)) (a .st) r × Onward (a .st) r)
+    (λ (r : Step). OpenerRead (a .tape .now) (a .ws .now) (c .read-opener .last .1 .0) (a .depth) (a .st) (a .style) r)
     e
     (c .read-opener .ensures)
 
@@ -333,6 +335,7 @@ pub +read-list+read-segment-spec : {M : Type 1} → statement M
     (read-list-returns-3 t)
     (read-list-same-length-4 t)
     (read-list-returns-4 t)
+    (read-list-cut-off-requires t)
     (read-list-same-length-5 t)
     (read-list-returns-5 t))
     λ t. read-segment-lts.spec (segment-claims t)

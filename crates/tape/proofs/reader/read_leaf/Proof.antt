@@ -7,20 +7,20 @@ use native.Mathlib.Omega.{arith}
 use Rattle.tape.specs.declared.State.{State}
 use Rattle.tape.specs.Command.{isLetter, added, Command, text, timestamp, commandOf}
 use Rattle.tape.specs.Tape.{says}
-use Rattle.tape.specs.Reading.{Wrote, byteOf, restOf, placeAfter}
+use Rattle.tape.specs.Reading.{Wrote, LeafRead, byteOf, commandAt}
 use Rattle.tape.proofs.Commands.{else-letter, letter-command, letter-adds}
 use Rattle.tape.proofs.reader.read_leaf.Statement.{statement}
 use Rattle.tape.proofs.reader.read_leaf.Tie as tie
 
 abbrev command : tie.Start → Command
-command s = let a = s .args in commandOf (byteOf (a .tape .now) (a .st)) (restOf (a .tape .now) (a .st))
+command s = commandAt (s .args .tape .now) (s .args .st)
 
 -- what is stored for the command, where it is known
 leaf : (c : tie.After-operand-width) {ws' : List ℕ} {r : State} (cm : Command) → let s = c .before .before .before .before in
     let a = s .args in
     command s ≡ cm
     → Wrote (a .ws .now) ws' (a .st) r (says cm (a .style) false) (a .st .at + 1 + c .operand-width .result)
-    → Wrote (a .ws .now) ws' (a .st) r (says (command s) (a .style) false) (placeAfter (a .tape .now) (a .st))
+    → LeafRead (a .tape .now) (a .ws .now) ws' (a .st) (a .style) r
 leaf c cm e h = rw (e, ← c .operand-width .ensures .0) h
 
 shared-slice-read-c : tie.Need-shared-slice-read-c

@@ -1,7 +1,6 @@
 use mathlib.Core.Path.{_≡_, _∙_, refl, sym, ap}
 use mathlib.Core.Bool.{true, false}
-use mathlib.Core.List.{List}
-use Prim.Native.Nat.{ℕ, _+_, _-_, _≤_, _<_}
+use Prim.Native.Nat.{_-_, _<_}
 use borrow.Author.Needs.{needs}
 use native.Mathlib.Nat.{add-zero}
 use native.Mathlib.Omega.{arith}
@@ -9,7 +8,7 @@ use lib.ListN.{length}
 use Rattle.tape.specs.declared.State.{State}
 use Rattle.tape.specs.Outcome.{refused}
 use Rattle.tape.specs.Command.{isOpener, added, ends, commandOf}
-use Rattle.tape.specs.Reading.{byteOf, restOf, inName, opened, Sound, Leaf, Went, Stopped}
+use Rattle.tape.specs.Reading.{byteOf, inName, Sound, Went}
 use Rattle.tape.proofs.Commands.{positive, name-letter, letter-flat}
 use Rattle.tape.proofs.Faults.{clean}
 use Rattle.tape.proofs.Leaves.{leaf, went-leaf}
@@ -118,16 +117,21 @@ loop-again c =
     went-then (a .tape .now) (a .depth) (l .inv)
     (went-leaf (a .tape .now) (a .depth) true (l .ws) (l .s) (sound o) (q .0) (q .1) (a .style) _ _ (p .read-leaf .ensures))
 
+cut-off-requires : tie.Need-cut-off-requires Inv-loop μ-loop
+cut-off-requires c κs = search needs
+
 same-length-3 : tie.Need-same-length-3 Inv-loop μ-loop
-same-length-3 c = wrote-length (c .before .before .loop .inv .stored)
+same-length-3 c = wrote-length (c .before .before .before .loop .inv .stored)
 
 returns-3 : tie.Need-returns-3 Inv-loop μ-loop
 returns-3 c =
-    let l = c .before .before .loop in
-    let a = c .before .before .before .before .before .args in
+    let l = c .before .before .before .loop in
+    let a = c .before .before .before .before .before .before .args in
+    let left = c .before .if1 .left in
     let end : l .s .at ≡ length (a .tape .now) = omega arith in
-    went-stopped (a .tape .now) (a .depth) (l .inv)
-    λ around d. end-from (a .tape .now) (inName (a .style) around) (l .s .at) (l .s .count) (omega arith) ∙ end-name around (l .s .at) ∙ ap (refused 3) end
+    rw (c .cut-off .ensures)
+    (went-stopped (a .tape .now) (a .depth) (l .inv) λ around d.
+    end-from (a .tape .now) (inName (a .style) around) (l .s .at) (l .s .count) left ∙ end-name around (l .s .at) ∙ ap (refused 3) end)
 
 pub read-name-spec : {M : Type 1} → statement M
 read-name-spec =
@@ -147,5 +151,6 @@ read-name-spec =
     read-leaf-requires
     loop-less
     loop-again
+    cut-off-requires
     same-length-3
     returns-3)

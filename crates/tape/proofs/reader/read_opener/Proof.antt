@@ -1,15 +1,13 @@
-use mathlib.Core.Path.{_≡_, _∙_, refl, ap}
+use mathlib.Core.Path.{_≡_, refl, ap}
 use mathlib.Core.Bool.{false}
-use mathlib.Core.List.{List, []}
-use Prim.Native.Nat.{ℕ, _+_, _<_}
+use mathlib.Core.List.{[]}
+use Prim.Native.Nat.{_<_}
 use borrow.Author.Needs.{needs}
 use native.Mathlib.Omega.{arith}
-use Rattle.tape.specs.declared.Style.{Style}
 use Rattle.tape.specs.declared.State.{State}
-use Rattle.tape.specs.Style.{inside}
 use Rattle.tape.specs.Command.{isLetter, Command, opens, voice, openerOf, commandOf}
 use Rattle.tape.specs.Tape.{says, next}
-use Rattle.tape.specs.Reading.{byteOf, restOf, inList, opened, Went}
+use Rattle.tape.specs.Reading.{byteOf, restOf, commandAt, inList, opened, Went}
 use Rattle.tape.proofs.Commands.{open-command}
 use Rattle.tape.proofs.Faults.{clean}
 use Rattle.tape.proofs.Went.{went-command, then-reads, onward}
@@ -17,7 +15,7 @@ use Rattle.tape.proofs.reader.read_opener.Statement.{statement}
 use Rattle.tape.proofs.reader.read_opener.Tie as tie
 
 abbrev command : tie.Start → Command
-command s = let a = s .args in commandOf (byteOf (a .tape .now) (a .st)) (restOf (a .tape .now) (a .st))
+command s = commandAt (s .args .tape .now) (s .args .st)
 
 shared-slice-read-c : tie.Need-shared-slice-read-c
 shared-slice-read-c c = search needs
