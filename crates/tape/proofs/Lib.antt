@@ -14,3 +14,4 @@ pub mod Written
 pub mod Letters
 pub mod Bytes
 pub mod Cases
+pub mod Answers
