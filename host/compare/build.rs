@@ -1,22 +1,26 @@
-//! Links the proved library `libfont_c.a`, and says how to make it where it is missing.
+//! Links the proved libraries, and says how to make one that is missing.
 
 use std::env;
 use std::path::PathBuf;
+
+const LIBRARIES: [&str; 2] = ["font_c", "tape_c"];
 
 fn main() {
     println!("cargo::rerun-if-changed=build.rs");
     println!("cargo::rerun-if-env-changed=CAPTIONS_STATICLIB");
     let folder = folder();
-    let archive = folder.join("libfont_c.a");
-    println!("cargo::rerun-if-changed={}", archive.display());
-    if archive.is_file() {
-        println!("cargo::rustc-link-search=native={}", folder.display());
-        println!("cargo::rustc-link-lib=static=font_c");
-    } else {
-        println!(
-            "cargo::error=the proved library is not at {}: run `rt staticlib font_c` in the repository first",
-            archive.display()
-        );
+    println!("cargo::rustc-link-search=native={}", folder.display());
+    for name in LIBRARIES {
+        let archive = folder.join(format!("lib{name}.a"));
+        println!("cargo::rerun-if-changed={}", archive.display());
+        if archive.is_file() {
+            println!("cargo::rustc-link-lib=static={name}");
+        } else {
+            println!(
+                "cargo::error=the proved library is not at {}: run `rt staticlib {name}` in the repository first",
+                archive.display()
+            );
+        }
     }
 }
 

@@ -1,5 +1,6 @@
 //! Looks for the two original files and, where both are there, declares them as modules of this
-//! crate at the place where they stand, so that nothing of their text is copied.
+//! crate: `font.rs` at the place where it stands, and `compositor.rs` as a copy in the build's own
+//! folder with `append/compositor.rs` behind it, since what the comparison calls there is private.
 
 use std::env;
 use std::fs;
@@ -48,17 +49,33 @@ fn shown(folder: &Path) -> PathBuf {
 
 /// Writes the modules to `original.rs`, which `lib.rs` includes, and sets the cfg `original`.
 fn declare(folder: &Path) -> io::Result<()> {
+    let out = PathBuf::from(env::var_os("OUT_DIR").unwrap_or_default());
     let mut modules = String::new();
     for name in FILES {
         let file = folder.join(name).canonicalize()?;
         println!("cargo::rerun-if-changed={}", file.display());
+        let file = opened(&file, name, &out)?;
         let module = name.trim_end_matches(".rs");
         modules.push_str(&format!(
             "#[allow(warnings)]\n#[path = {file:?}]\npub mod {module};\n"
         ));
     }
-    let out = PathBuf::from(env::var_os("OUT_DIR").unwrap_or_default());
     fs::write(out.join("original.rs"), modules)?;
     println!("cargo::rustc-cfg=original");
     Ok(())
+}
+
+/// The file itself, or, where `append/` has something to put behind it, a copy with that.
+fn opened(file: &Path, name: &str, out: &Path) -> io::Result<PathBuf> {
+    let append = Path::new("append").join(name);
+    println!("cargo::rerun-if-changed=append");
+    if !append.is_file() {
+        return Ok(file.to_path_buf());
+    }
+    let copy = out.join(name);
+    fs::write(
+        &copy,
+        fs::read_to_string(file)? + &fs::read_to_string(append)?,
+    )?;
+    Ok(copy)
 }

@@ -11,8 +11,8 @@ pub struct Fenced {
 }
 
 /// What a call did with the bytes lent to it.
-pub struct Lent {
-    pub answer: bool,
+pub struct Lent<T> {
+    pub answer: T,
     /// Whether every byte but its own is as before.
     pub kept: bool,
 }
@@ -32,12 +32,12 @@ impl Fenced {
 
     /// Lends a call the bytes of `own`, which it may change, and `further` bytes after them, which
     /// it may not. The further bytes may reach into the fence.
-    pub fn lend(
+    pub fn lend<T>(
         &mut self,
         own: Range<usize>,
         further: usize,
-        call: impl FnOnce(&mut [u8]) -> bool,
-    ) -> Lent {
+        call: impl FnOnce(&mut [u8]) -> T,
+    ) -> Lent<T> {
         self.before.copy_from_slice(&self.bytes);
         let from = self.inside.start + own.start;
         let to = self.inside.start + own.end;

@@ -1,17 +1,11 @@
-//! Compares the proved font with the original that it was carried over from: every glyph row by
-//! row, and pictures byte by byte.
+//! Compares the proved crates with the original that they were carried over from.
 
 mod args;
 mod count;
 mod fenced;
-mod generate;
-mod glyphs;
-mod picture;
-mod proved;
+mod font;
 mod random;
-mod refusals;
-mod specimen;
-mod strokes;
+mod tape;
 
 use args::{Command, USAGE};
 use reference::Original;
@@ -36,19 +30,22 @@ fn main() -> ExitCode {
         return ExitCode::from(2);
     };
     match command {
-        Command::Compare { pictures, seed } => compare(&original, pictures, seed),
-        Command::Specimen => write_specimen(&original),
+        Command::Compare {
+            pictures,
+            tapes,
+            seed,
+        } => compare(&original, pictures, tapes, seed),
+        Command::Specimen => write(font::specimen(&original).as_bytes()),
+        Command::Sample => write(&tape::sample::tapes()),
+        Command::SampleAnswers => write(tape::sample::answers(&original).as_bytes()),
     }
 }
 
-fn compare(original: &Original, pictures: u64, seed: u64) -> ExitCode {
+fn compare(original: &Original, pictures: u64, tapes: u64, seed: u64) -> ExitCode {
     println!("the original stands in {}", reference::LOOKED_IN);
     println!("seed {seed}");
-    let mut counts = glyphs::compare(original);
-    counts.push(strokes::every_glyph(original));
-    counts.push(strokes::limits(original));
-    counts.push(refusals::compare(seed));
-    counts.push(strokes::random(original, seed, pictures));
+    let mut counts = font::compare(original, seed, pictures);
+    counts.extend(tape::compare(original, seed, tapes));
     let (mut passed, mut failed) = (0, 0);
     for count in &counts {
         count.show();
@@ -63,11 +60,11 @@ fn compare(original: &Original, pictures: u64, seed: u64) -> ExitCode {
     }
 }
 
-fn write_specimen(original: &Original) -> ExitCode {
-    match io::stdout().write_all(specimen::specimen(original).as_bytes()) {
+fn write(bytes: &[u8]) -> ExitCode {
+    match io::stdout().write_all(bytes) {
         Ok(()) => ExitCode::SUCCESS,
         Err(error) => {
-            eprintln!("cannot write the specimen: {error}");
+            eprintln!("cannot write: {error}");
             ExitCode::FAILURE
         }
     }

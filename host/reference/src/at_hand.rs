@@ -1,8 +1,11 @@
 //! What the comparison asks of the original, where it is at hand.
 
+use crate::Run;
+use crate::compositor;
 use crate::font::BitmapFont;
+use oxideav_core::Segment;
 
-/// The original's fonts. Only [`crate::original`] makes one.
+/// The original: its fonts, and the functions of its compositor. Only [`crate::original`] makes one.
 pub struct Original {
     regular: &'static BitmapFont,
     bold: &'static BitmapFont,
@@ -63,5 +66,18 @@ impl Original {
             }
         }
         Some(rows)
+    }
+
+    /// The runs of segments, merged, where the style around them has this color and no mark.
+    pub fn flatten_segments(&self, segments: &[Segment], color: [u8; 4]) -> Vec<Run> {
+        compositor::flatten(segments, color)
+            .into_iter()
+            .map(|(text, bold, italic, color)| Run {
+                text,
+                bold,
+                italic,
+                color,
+            })
+            .collect()
     }
 }

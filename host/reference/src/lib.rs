@@ -1,5 +1,5 @@
-//! The original: `font.rs` and `compositor.rs` of oxideav-subtitle, compiled unchanged where they
-//! stand, and what the comparison asks of them.
+//! The original: `font.rs` and `compositor.rs` of oxideav-subtitle, compiled unchanged, and what
+//! the comparison asks of them.
 //!
 //! `build.rs` looks for the two files. Where they are missing the crate still builds, [`original`]
 //! answers `None`, and nothing of them is imitated.
@@ -23,4 +23,13 @@ pub const LOOKED_IN: &str = env!("ORIGINAL_LOOKED_IN");
 /// The original, where it is at hand. A caller asks once and handles `None` once.
 pub fn original() -> Option<Original> {
     Original::find()
+}
+
+/// A run of letters in one style, as the original flattens segments to.
+#[derive(Clone, Debug, PartialEq)]
+pub struct Run {
+    pub text: String,
+    pub bold: bool,
+    pub italic: bool,
+    pub color: [u8; 4],
 }

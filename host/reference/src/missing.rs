@@ -1,6 +1,9 @@
 //! What stands in the original's place where it is missing: a type that has no value.
 
-/// The original's fonts. There are none here, so no method of this type is ever called.
+use crate::Run;
+use oxideav_core::Segment;
+
+/// The original. There is none here, so no method of this type is ever called.
 pub enum Original {}
 
 impl Original {
@@ -30,6 +33,11 @@ impl Original {
 
     /// The rows that the original draws for a code point, where it is at hand.
     pub fn glyph_rows(&self, _bold: bool, _code: u32) -> Option<[u8; 16]> {
+        match *self {}
+    }
+
+    /// The runs of segments, where the original is at hand.
+    pub fn flatten_segments(&self, _segments: &[Segment], _color: [u8; 4]) -> Vec<Run> {
         match *self {}
     }
 }

@@ -2,11 +2,11 @@
 
 use crate::count::Count;
 use crate::fenced::{Fenced, Lent};
-use crate::generate;
-use crate::picture::{as_proved, fence};
-use crate::proved::{self, ORIGIN, PLACE_END, PLACE_MIN, Part, SIDE_MAX, Stroke};
+use crate::font::generate;
+use crate::font::picture::{as_proved, fence};
+use crate::font::proved::{self, ORIGIN, PLACE_END, PLACE_MIN, Part, SIDE_MAX, Stroke};
 use crate::random::Random;
-use crate::strokes::STYLES;
+use crate::font::strokes::STYLES;
 
 /// How many random strokes are refused beside those at the limits.
 const RANDOM: u64 = 20_000;

@@ -1,7 +1,7 @@
 //! A picture with strokes over it, drawn by the original and by the proved font.
 
 use crate::fenced::{Fenced, Lent};
-use crate::proved::{self, ORIGIN, Part};
+use crate::font::proved::{self, ORIGIN, Part};
 use reference::Original;
 use std::fmt;
 use std::ops::Range;
@@ -98,7 +98,7 @@ impl Picture {
         }
     }
 
-    fn draw_part(&self, fenced: &mut Fenced, stroke: &Stroke, rows: &Range<u32>) -> Lent {
+    fn draw_part(&self, fenced: &mut Fenced, stroke: &Stroke, rows: &Range<u32>) -> Lent<bool> {
         let row = 4 * self.width as usize;
         let own = rows.start as usize * row..rows.end as usize * row;
         let part = Part {

@@ -1,9 +1,9 @@
 //! Compares pictures that the original and the proved font drew.
 
 use crate::count::Count;
-use crate::generate;
-use crate::picture::{Picture, Stroke};
-use crate::proved::{ORIGIN, PLACE_END, PLACE_MIN, SIDE_MAX};
+use crate::font::generate;
+use crate::font::picture::{Picture, Stroke};
+use crate::font::proved::{ORIGIN, PLACE_END, PLACE_MIN, SIDE_MAX};
 use crate::random::Random;
 use reference::Original;
 

@@ -1,7 +1,7 @@
 //! Random pictures and strokes.
 
-use crate::picture::{Picture, Stroke, fence};
-use crate::proved::{ORIGIN, PLACE_END, PLACE_MIN, SIDE_MAX};
+use crate::font::picture::{Picture, Stroke, fence};
+use crate::font::proved::{ORIGIN, PLACE_END, PLACE_MIN, SIDE_MAX};
 use crate::random::Random;
 use std::ops::RangeInclusive;
 

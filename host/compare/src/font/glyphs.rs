@@ -1,7 +1,7 @@
 //! Compares the rows of glyphs.
 
 use crate::count::Count;
-use crate::proved;
+use crate::font::proved;
 use reference::Original;
 
 /// Code points past the table: each byte length of UTF-8, letters whose low bits are an `A`, both

@@ -1,0 +1,56 @@
+//! Letters with their styles, and what a tape comes to.
+
+use reference::Run;
+
+#[derive(Clone, Copy, Debug, PartialEq)]
+pub struct Style {
+    pub color: [u8; 4],
+    pub bold: bool,
+    pub italic: bool,
+}
+
+#[derive(Clone, Copy, Debug, PartialEq)]
+pub struct Letter {
+    pub code: u32,
+    pub style: Style,
+    /// Whether a run starts with it.
+    pub start: bool,
+}
+
+#[derive(Clone, Debug, PartialEq)]
+pub enum Outcome {
+    Letters(Vec<Letter>),
+    Refused { number: u32, place: usize },
+}
+
+impl Letter {
+    /// The eight bytes of a letter in the workspace.
+    pub fn bytes(&self) -> [u8; 8] {
+        let [_, high, middle, low] = self.code.to_be_bytes();
+        let [red, green, blue, alpha] = self.style.color;
+        let flags = u8::from(self.style.bold)
+            + 2 * u8::from(self.style.italic)
+            + 4 * u8::from(self.start);
+        [high, middle, low, red, green, blue, alpha, flags]
+    }
+}
+
+/// The letters of merged runs: the first of each run starts it.
+pub fn of_runs(runs: &[Run]) -> Vec<Letter> {
+    let mut letters = Vec::new();
+    for run in runs {
+        let style = Style {
+            color: run.color,
+            bold: run.bold,
+            italic: run.italic,
+        };
+        for (at, ch) in run.text.chars().enumerate() {
+            letters.push(Letter {
+                code: u32::from(ch),
+                style,
+                start: at == 0,
+            });
+        }
+    }
+    letters
+}

@@ -1,0 +1,42 @@
+//! The proved reader: the function of `libtape_c.a`.
+#![allow(unsafe_code)]
+
+unsafe extern "C" {
+    fn tape_letters(
+        tape: *const u8,
+        tape_len: usize,
+        workspace: *mut u8,
+        workspace_len: usize,
+        color: *const u8,
+    ) -> u64;
+}
+
+#[derive(Debug, PartialEq)]
+pub enum Answer {
+    /// How many letters the workspace begins with.
+    Letters(usize),
+    Refused {
+        number: u32,
+        place: usize,
+    },
+}
+
+/// Reads a tape into a workspace; `color` is that of the tape's outer list.
+pub fn read(tape: &[u8], workspace: &mut [u8], color: [u8; 4]) -> Answer {
+    // Safety: each pointer and length are those of one slice, lent for the call alone, and `color`
+    // has the four bytes that are read. Every tape and every length is allowed.
+    let answer = unsafe {
+        tape_letters(
+            tape.as_ptr(),
+            tape.len(),
+            workspace.as_mut_ptr(),
+            workspace.len(),
+            color.as_ptr(),
+        )
+    };
+    let low = answer as u32 as usize;
+    match (answer >> 32) as u32 {
+        0 => Answer::Letters(low),
+        number => Answer::Refused { number, place: low },
+    }
+}
