@@ -37,6 +37,7 @@ fn main() -> ExitCode {
         } => compare(&original, pictures, tapes, seed),
         Command::Specimen => write(font::specimen(&original).as_bytes()),
         Command::Sample => write(&tape::sample::tapes()),
+        Command::Speed => write(tape::speed::table(&original).as_bytes()),
         Command::SampleAnswers => write(tape::sample::answers(&original).as_bytes()),
     }
 }

@@ -5,8 +5,8 @@ use crate::fenced::{Fenced, Lent};
 use crate::font::generate;
 use crate::font::picture::{as_proved, fence};
 use crate::font::proved::{self, ORIGIN, PLACE_END, PLACE_MIN, Part, SIDE_MAX, Stroke};
-use crate::random::Random;
 use crate::font::strokes::STYLES;
+use crate::random::Random;
 
 /// How many random strokes are refused beside those at the limits.
 const RANDOM: u64 = 20_000;

@@ -30,7 +30,12 @@ pub fn check(tape: &[u8], color: [u8; 4], room: usize, expected: &Outcome) -> Re
         Outcome::Letters(letters) => Answer::Letters(letters.len()),
         &Outcome::Refused { number, place } => Answer::Refused { number, place },
     };
-    let wrong = |what: String| Err(format!("{what}\n    color {color:02x?}, tape {}", hex(tape)));
+    let wrong = |what: String| {
+        Err(format!(
+            "{what}\n    color {color:02x?}, tape {}",
+            hex(tape)
+        ))
+    };
     if answer != due {
         return wrong(format!("{answer:?} where {due:?} is due"));
     }

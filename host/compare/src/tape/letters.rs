@@ -28,9 +28,8 @@ impl Letter {
     pub fn bytes(&self) -> [u8; 8] {
         let [_, high, middle, low] = self.code.to_be_bytes();
         let [red, green, blue, alpha] = self.style.color;
-        let flags = u8::from(self.style.bold)
-            + 2 * u8::from(self.style.italic)
-            + 4 * u8::from(self.start);
+        let flags =
+            u8::from(self.style.bold) + 2 * u8::from(self.style.italic) + 4 * u8::from(self.start);
         [high, middle, low, red, green, blue, alpha, flags]
     }
 }

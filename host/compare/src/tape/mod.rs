@@ -9,6 +9,7 @@ mod proved;
 mod reading;
 pub mod sample;
 mod segments;
+pub mod speed;
 mod written;
 
 use crate::count::Count;
