@@ -4,9 +4,10 @@ use mathlib.Core.Bool.{Bool, true, false, cond, not, _&&_, _||_}
 use mathlib.Core.List.{List}
 use Prim.Native.Nat.{ℕ, suc, _+_, _≤_, _<_}
 use native.Mathlib.Omega.{arith}
-use borrow.Author.Tests.{le-ltb, ltb-false, eq-eqb, eqb-false}
-use lib.Dec.{ltb, eqb}
+use borrow.Author.Tests.{leb-true, le-leb, lt-leb, le-ltb, ltb-false, eq-eqb, ne-eqb, eqb-false}
+use lib.Dec.{leb, ltb, eqb}
 use lib.ListN.{length}
+use Rattle.tape.proofs.Styles.{split}
 use Rattle.tape.specs.Command.{deepest, mostLetters, width, codePoint, isLetter, isOpener, isScalar, added, faultOf}
 
 -- the first fault of a command from each number on, in the table's order
@@ -78,9 +79,17 @@ no-fault name depth n c rest ok scalar =
     )
 
 -- a list that a 00 ends is not the outer one
-pub not-outer : {depth n c : ℕ} {rest : List ℕ} → Clean false depth n c rest → c ≡ 0 → depth ≡ 0 → ⊥
-not-outer {depth} {c = c} ok e d = eqb-false depth 0 (rw (eq-eqb c 0 e) at (ok .nested)) d
+pub not-outer : {name : Bool} {depth n c : ℕ} {rest : List ℕ} → Clean name depth n c rest → c ≡ 0 → name ≡ false → depth ≡ 0 → ⊥
+not-outer {depth = depth} {c = c} ok e f d = eqb-false depth 0 (rw (eq-eqb c 0 e, f) at (ok .nested)) d
 
 -- a list that opens is not too deep
 pub not-deepest : {name : Bool} {depth n c : ℕ} {rest : List ℕ} → Clean name depth n c rest → isOpener c ≡ true → depth ≡ deepest → ⊥
 not-deepest {depth = depth} ok o d = eqb-false depth deepest (rw o at (ok .shallow)) d
+
+-- a name holds no opener
+pub opens-in-list : (name : Bool) {depth n c : ℕ} {rest : List ℕ} → Clean name depth n c rest → isOpener c ≡ true → name ≡ false
+unfolding isOpener isLetter
+opens-in-list true {c = c} ok o =
+    let six = leb-true 6 c (split (leb 6 c) (leb c 10) o .0) in
+    rw (ne-eqb c 0 (λ e. omega arith), le-leb 2 c (omega arith), lt-leb c 4 (omega arith)) at (ok .plain)
+opens-in-list false ok o = refl

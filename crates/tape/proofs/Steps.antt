@@ -1,11 +1,12 @@
 -- How the tape's meaning goes on: one command, a fault, the end.
 use mathlib.Core.Path.{_≡_, _∙_, refl, sym, ap}
-use mathlib.Core.Bool.{Bool, true}
+use mathlib.Core.Bool.{Bool, true, false, not, _&&_}
 use mathlib.Core.List.{List, [], _∷_, _++_, append-assoc}
 use Prim.Native.Nat.{ℕ, zero, suc, _+_, _≤_, _<_}
 use native.Mathlib.Nat.{add-zero}
 use native.Mathlib.Numerals.{add-one}
 use native.Mathlib.Omega.{arith}
+use lib.Dec.{eqb}
 use lib.ListN.{length, drop, getD, drop-of-length-le}
 use lib.Seq.{drop-cons, drop-drop}
 use Rattle.tape.specs.declared.Style.{Style}
@@ -77,10 +78,9 @@ pub end-from : (tape : List ℕ) (f : Frame) (at n : ℕ) → length tape ≤ at
 unfolding from read
 end-from tape f at n h = rw (drop-of-length-le tape h)
 
-pub end-deep : (around : List Style) (name : Bool) (place : ℕ) → (length around ≡ 0 → ⊥) → atEnd around name place ≡ refused 3 place
-end-deep [] name place h = absurd (h refl)
-end-deep (s ∷ around) name place h = refl
-
-pub end-name : (around : List Style) (place : ℕ) → atEnd around true place ≡ refused 3 place
-end-name [] place = refl
-end-name (s ∷ around) place = refl
+-- in a list or in a name
+pub end-inside : (around : List Style) (name : Bool) (place : ℕ) → (not name && eqb (length around) 0) ≡ false
+    → atEnd around name place ≡ refused 3 place
+end-inside [] true place h = refl
+end-inside [] false place h = let z : true ≡ false = h in cc
+end-inside (s ∷ around) name place h = refl

@@ -1,6 +1,6 @@
 -- Parts of a tape that are read one after the other are read together.
 use mathlib.Core.Path.{_≡_, _∙_, refl, sym, ap, ap₂, subst}
-use mathlib.Core.Bool.{Bool}
+use mathlib.Core.Bool.{Bool, false}
 use mathlib.Core.List.{List, [], _∷_, _++_}
 use Prim.Native.Nat.{ℕ, suc, _+_, _*_, _≤_, _<_}
 use native.Mathlib.Nat.{add-zero}
@@ -14,10 +14,10 @@ use Rattle.tape.specs.declared.Step.{Step}
 use Rattle.tape.specs.declared.Step.the-variants.{Done, Refused}
 use Rattle.tape.specs.Command.{mostLetters, added, faultOf, Command, commandOf}
 use Rattle.tape.specs.Runs.{Run}
-use Rattle.tape.specs.Tape.{Frame, frame, leave, says, next, after}
+use Rattle.tape.specs.Tape.{Frame, frame, says, next, after}
 use Rattle.tape.specs.Marks.{marked}
 use Rattle.tape.specs.Stored.{cells}
-use Rattle.tape.specs.Reading.{lastOf, inList, Wrote, byteOf, restOf, placeAfter, Sound, Went, Stopped, Reads, Onward, from}
+use Rattle.tape.specs.Reading.{lastOf, within, past, Wrote, byteOf, restOf, placeAfter, Sound, Went, Stopped, Reads, Onward, from}
 use Rattle.tape.proofs.Commands.{says-added}
 use Rattle.tape.proofs.Faults.{Clean, clean}
 use Rattle.tape.proofs.Steps.{after-none, after-after, command-from, fault-from}
@@ -35,7 +35,7 @@ module _ (tape : List ℕ) (depth : ℕ) where
         runs = [];
         stored = record { state = rw add-zero; bytes = refl };
         on = omega arith;
-        within = h;
+        to = h;
         few = k;
         same = λ around e. sym (after-none _);
       }
@@ -47,7 +47,7 @@ module _ (tape : List ℕ) (depth : ℕ) where
         runs = h .runs ++ k .runs;
         stored = wrote-then (h .stored) (k .stored);
         on = omega arith;
-        within = k .within;
+        to = k .to;
         few = k .few;
         same = λ around e. h .same around e ∙ ap (after (h .runs)) (k .same around e) ∙ after-after (h .runs) (k .runs) (from tape (Z around) (c .at) (c .count));
       }
@@ -73,7 +73,7 @@ module _ (tape : List ℕ) (depth : ℕ) where
         runs = h .runs;
         stored = h .stored;
         on = h .on;
-        within = h .within;
+        to = h .to;
         few = h .few;
         same = λ around e. h .same (s ∷ around) (ap suc e ∙ sym (add-one depth));
       }
@@ -108,7 +108,7 @@ module _ (tape : List ℕ) (depth : ℕ) where
         runs = says cm s name;
         stored = subst (λ (p : ℕ). Wrote ws ws' a b (says cm s name) p) (sym at) w;
         on = omega arith;
-        within = omega arith;
+        to = omega arith;
         few = omega arith;
         same = λ around d.
             command-from tape (a .at) (a .count) (h .inside) s around name cm (rw d (h .clear)) e
@@ -116,19 +116,20 @@ module _ (tape : List ℕ) (depth : ℕ) where
       }
 
 -- the outer list is not left
-pub went-outer : {tape ws ws' : List ℕ} {depth : ℕ} {X : List Style → Frame} {s : Style} {a b : State} → depth ≡ 0
-    → Went tape ws ws' depth X (inList s) a b
-    → Went tape ws ws' depth X (leave s) a b
-went-outer {tape} {s = s} {b = b} z h =
+pub went-outer : {tape ws ws' : List ℕ} {name : Bool} {depth : ℕ} {X : List Style → Frame} {s : Style} {a b : State} → name ≡ false
+    → depth ≡ 0
+    → Went tape ws ws' depth X (within s name) a b
+    → Went tape ws ws' depth X (past s name) a b
+went-outer {tape} {name = name} {s = s} {b = b} f z h =
     record {
       runs = h .runs;
       stored = h .stored;
       on = h .on;
-      within = h .within;
+      to = h .to;
       few = h .few;
       same = λ around d. h .same around d ∙ ap (λ (f : Frame). after (h .runs) (from tape f (b .at) (b .count))) (outer around (d ∙ z));
     }
   where
-    outer : (around : List Style) → length around ≡ 0 → inList s around ≡ leave s around
-    outer [] e = refl
+    outer : (around : List Style) → length around ≡ 0 → within s name around ≡ past s name around
+    outer [] e = rw f refl
     outer (t ∷ around) e = absurd (omega arith)

@@ -1,6 +1,6 @@
 -- From the outer list to the call.
 use mathlib.Core.Path.{_≡_, _∙_, refl, sym, ap, subst}
-use mathlib.Core.Bool.{true}
+use mathlib.Core.Bool.{true, false}
 use mathlib.Core.List.{List, [], append-nil}
 use Prim.Native.Nat.{ℕ, _≤_, _<_}
 use native.Mathlib.Nat.{zero-add}
@@ -12,10 +12,10 @@ use Rattle.tape.specs.declared.State.{State}
 use Rattle.tape.specs.declared.Answer.{Answer}
 use Rattle.tape.specs.Outcome.{Outcome, accepted, refused, onAccepted}
 use Rattle.tape.specs.Runs.{Run, merge, Letter, lettersOf}
-use Rattle.tape.specs.Tape.{leave, mostBytes, leastRoom, after, tapeRuns, tapeLetters, tapeRead}
+use Rattle.tape.specs.Tape.{mostBytes, leastRoom, after, tapeRuns, tapeLetters, tapeRead}
 use Rattle.tape.specs.Marks.{last, marked}
 use Rattle.tape.specs.Stored.{stored}
-use Rattle.tape.specs.Reading.{inList, Went, Stopped, from, answerOf, Left, TapeRead}
+use Rattle.tape.specs.Reading.{within, past, Went, Stopped, from, answerOf, Left, TapeRead}
 use Rattle.tape.proofs.Marked.{marked-merged}
 use Rattle.tape.proofs.Bounds.{Bounded, letters-bounded}
 use Rattle.tape.proofs.Steps.{end-from}
@@ -51,21 +51,21 @@ told tape ws ws' s o h k e l =
     record { answers = rw w; leaves = rw w l }
 
 module _ (tape ws ws' : List ℕ) (s : Style) (h : length tape ≤ mostBytes) (k : leastRoom ≤ length ws) where
-  unfolds : tapeLetters s tape ≡ onAccepted lettersOf (onAccepted merge (from tape (inList s []) 0 0))
+  unfolds : tapeLetters s tape ≡ onAccepted lettersOf (onAccepted merge (from tape (within s false []) 0 0))
   unfolding tapeLetters tapeRuns from
   unfolds = refl
 
-  pub tape-refused : (number place : ℕ) → Stopped tape 0 (inList s) (start s) number place → TapeRead tape ws ws' s (Answer.Refused number place)
+  pub tape-refused : (number place : ℕ) → Stopped tape 0 (within s false) (start s) number place → TapeRead tape ws ws' s (Answer.Refused number place)
   tape-refused number place f =
       let e : tapeLetters s tape ≡ refused number place = unfolds ∙ ap (λ (o : Outcome (List Run)). onAccepted lettersOf (onAccepted merge o)) (f [] refl) in
       let own = subst (λ (o : Outcome (List Letter)). Bounded (length tape) o) e (letters-bounded s tape) in
       told tape ws ws' s (refused number place) h k e (λ ten. let most = own .most in absurd (omega arith))
 
-  pub tape-accepted : (end : State) → Went tape ws ws' 0 (inList s) (leave s) (start s) end → length tape ≤ end .at → TapeRead tape ws ws' s (Answer.Letters (end .count))
+  pub tape-accepted : (end : State) → Went tape ws ws' 0 (within s false) (past s false) (start s) end → length tape ≤ end .at → TapeRead tape ws ws' s (Answer.Letters (end .count))
   tape-accepted end w g =
       let ls : List Letter = marked (last s true) (w .runs) in
-      let rs : from tape (inList s []) 0 0 ≡ accepted (w .runs) =
-      w .same [] refl ∙ ap (after (w .runs)) (end-from tape (leave s []) (end .at) (end .count) g) ∙ ap accepted (append-nil (w .runs)) in
+      let rs : from tape (within s false []) 0 0 ≡ accepted (w .runs) =
+      w .same [] refl ∙ ap (after (w .runs)) (end-from tape (past s false []) (end .at) (end .count) g) ∙ ap accepted (append-nil (w .runs)) in
       let e : tapeLetters s tape ≡ accepted ls =
       unfolds ∙ ap (λ (o : Outcome (List Run)). onAccepted lettersOf (onAccepted merge o)) rs ∙ ap accepted (sym (marked-merged s (w .runs))) in
       let n : end .count ≡ length ls = ap (λ (x : State). x .count) (w .stored .state) ∙ zero-add (length ls) in

@@ -1,7 +1,7 @@
 -- Promises: what the reader's functions ask of and tell each other. No reader of the deposit needs this file.
 use mathlib.Core.Path.{_≡_}
-use mathlib.Core.Bool.{Bool, true, false}
-use mathlib.Core.List.{List, _∷_}
+use mathlib.Core.Bool.{Bool, false}
+use mathlib.Core.List.{List}
 use Prim.Native.Nat.{ℕ, _+_, _*_, _≤_, _<_}
 use lib.ListN.{length, getD, drop}
 use Rattle.tape.specs.declared.Style.{Style}
@@ -10,10 +10,9 @@ use Rattle.tape.specs.declared.Step.{Step}
 use Rattle.tape.specs.declared.Step.the-variants.{Done, Refused}
 use Rattle.tape.specs.declared.Answer.{Answer}
 use Rattle.tape.specs.Outcome.{Outcome, accepted, refused}
-use Rattle.tape.specs.Style.{inside}
-use Rattle.tape.specs.Command.{mostLetters, width, isOpener, added, faultOf, Command, commandOf, openerOf}
+use Rattle.tape.specs.Command.{mostLetters, width, isOpener, added, faultOf, Command, ends, commandOf}
 use Rattle.tape.specs.Runs.{Run, Letter}
-use Rattle.tape.specs.Tape.{Frame, frame, leave, says, after, read, tapeRead}
+use Rattle.tape.specs.Tape.{Frame, frame, says, next, after, read, tapeRead}
 use Rattle.tape.specs.Marks.{Last, last, lastAfter, marked}
 use Rattle.tape.specs.Stored.{stored}
 
@@ -60,16 +59,13 @@ restOf tape st = restAt tape (st .at)
 abbrev pub commandAt : List ℕ → State → Command
 commandAt tape st = commandOf (byteOf tape st) (restOf tape st)
 
-abbrev pub insideAt : List ℕ → State → Style → Style
-insideAt tape st s = inside (openerOf (byteOf tape st) (restOf tape st)) s
-
 -- the place after the command and its operands
 abbrev pub placeAfter : List ℕ → State → ℕ
 placeAfter tape st = st .at + 1 + width (byteOf tape st)
 
 -- a state that can be read on from
 pub record Ready (tape ws : List ℕ) (st : State) : Type 0 where
-  pub within : st .at ≤ length tape
+  pub on : st .at ≤ length tape
   pub few : st .count ≤ mostLetters
   pub space : 8 * mostLetters ≤ length ws
 
@@ -94,22 +90,19 @@ pub record Leaf (tape ws : List ℕ) (st : State) : Type 0 where
 unfoldable pub from : List ℕ → Frame → ℕ → ℕ → Outcome (List Run)
 from tape f at n = read 0 f at n (drop at tape)
 
--- The frames that reading starts and ends in, with any styles around: in a list, in a name, and in a list just opened.
-abbrev pub inList : Style → List Style → Frame
-inList s around = frame s around false
+-- The frames that reading starts and ends in, with any styles around: in a list or a name, and past its 00.
+abbrev pub within : Style → Bool → List Style → Frame
+within s name around = frame s around name
 
-abbrev pub inName : Style → List Style → Frame
-inName s around = frame s around true
-
-abbrev pub opened : Style → Style → List Style → Frame
-opened t s around = frame t (s ∷ around) false
+abbrev pub past : Style → Bool → List Style → Frame
+past s name around = next ends s around name
 
 -- from a to b the reader stored the runs that the tape means there; X is the frame at a, and Y at b
 pub record Went (tape ws ws' : List ℕ) (depth : ℕ) (X Y : List Style → Frame) (a b : State) : Type 0 where
   pub runs : List Run
   pub stored : Wrote ws ws' a b runs (b .at)
   pub on : a .at ≤ b .at
-  pub within : b .at ≤ length tape
+  pub to : b .at ≤ length tape
   pub few : b .count ≤ mostLetters
   pub same : (around : List Style) → length around ≡ depth → from tape (X around) (a .at) (a .count) ≡ after runs (from tape (Y around) (b .at) (b .count))
 
@@ -128,25 +121,19 @@ Onward a (Done b) = a .at < b .at
 Onward a (Refused number place) = Unit
 
 -- the outer list goes to the tape's end
-abbrev pub ToTheEnd : List ℕ → ℕ → Step → Type 0
-ToTheEnd tape depth (Done b) = depth ≡ 0 → length tape ≤ b .at
-ToTheEnd tape depth (Refused number place) = Unit
+abbrev pub ToTheEnd : List ℕ → Bool → ℕ → Step → Type 0
+ToTheEnd tape name depth (Done b) = name ≡ false → depth ≡ 0 → length tape ≤ b .at
+ToTheEnd tape name depth (Refused number place) = Unit
 
--- a leaf, a name, an opener with its name, a segment and a list were read
+-- a leaf, a segment, and a list or a name were read
 abbrev pub LeafRead : List ℕ → List ℕ → List ℕ → State → Style → State → Type 0
 LeafRead tape ws ws' a s b = Wrote ws ws' a b (says (commandAt tape a) s false) (placeAfter tape a)
 
-abbrev pub NameRead : List ℕ → List ℕ → List ℕ → ℕ → State → Style → Step → Type 0
-NameRead tape ws ws' depth a s r = Reads tape ws ws' depth (inName s) (opened s s) a r
+abbrev pub SegmentRead : List ℕ → List ℕ → List ℕ → Bool → ℕ → State → Style → Step → Type 0
+SegmentRead tape ws ws' name depth a s r = Reads tape ws ws' depth (within s name) (within s name) a r × Onward a r
 
-abbrev pub OpenerRead : List ℕ → List ℕ → List ℕ → ℕ → State → Style → Step → Type 0
-OpenerRead tape ws ws' depth a s r = Reads tape ws ws' depth (inList s) (opened (insideAt tape a s) s) a r × Onward a r
-
-abbrev pub SegmentRead : List ℕ → List ℕ → List ℕ → ℕ → State → Style → Step → Type 0
-SegmentRead tape ws ws' depth a s r = Reads tape ws ws' depth (inList s) (inList s) a r × Onward a r
-
-abbrev pub ListRead : List ℕ → List ℕ → List ℕ → ℕ → State → Style → Step → Type 0
-ListRead tape ws ws' depth a s r = Reads tape ws ws' depth (inList s) (leave s) a r × ToTheEnd tape depth r
+abbrev pub ListRead : List ℕ → List ℕ → List ℕ → Bool → ℕ → State → Style → Step → Type 0
+ListRead tape ws ws' name depth a s r = Reads tape ws ws' depth (within s name) (past s name) a r × ToTheEnd tape name depth r
 
 -- ---- the call
 

@@ -113,15 +113,19 @@ fn is_no_scalar(tape: &[u8], at: usize) -> bool
     false
 }
 
+// In the outer list, and in no name.
+pub fn is_outer(name: bool, depth: usize) -> bool
+    ensures { λ r. ⌜ r ≡ (not name && eqb depth 0) ⌝ }
+{
+    if name { false } else { depth == 0 }
+}
+
 // An end that no list and no name has.
 fn is_stray_end(c: u8, name: bool, depth: usize) -> bool
     ensures { λ r. ⌜ r ≡ (eqb c 0 && (not name && eqb depth 0)) ⌝ }
 {
     if c == 0x00 {
-        if name {
-            return false;
-        }
-        return depth == 0;
+        return is_outer(name, depth);
     }
     false
 }

@@ -10,7 +10,9 @@ ghost use mathlib.Core.List.{[], _∷_};
 ghost use Prim.Native.Nat.{_+_, _*_, _≤_, _<_};
 ghost use lib.ListN.{length};
 ghost use Rattle.tape.specs.Style.{defaultWith, sameStyle};
+ghost use Rattle.tape.specs.Command.{added, ends};
 ghost use Rattle.tape.specs.Runs.{run};
+ghost use Rattle.tape.specs.Tape.{says};
 ghost use Rattle.tape.specs.Marks.{starts};
 ghost use Rattle.tape.specs.Reading.{lastOf, wrote, Wrote, TapeRead};
 
@@ -123,13 +125,16 @@ impl State {
         }
     }
 
-    // Stores the ": " after a voice's name.
-    fn put_colon(self, ws: &mut [u8], s: Style, next: usize) -> State
-        requires { ⌜ 8 * self .count + 16 ≤ length (now ws) ⌝ }
-        ensures { λ r. ⌜ Wrote (now (ws .entry)) (now (ws .exit)) self r (run s (0x3a ∷ 0x20 ∷ []) ∷ []) next ⌝ }
+    // Passes the 00 of a list or a name: a name's stores ": ".
+    fn finish(self, ws: &mut [u8], s: Style, name: bool, next: usize) -> State
+        requires { ⌜ 8 * (self .count + added name 0) ≤ length (now ws) ⌝ }
+        ensures { λ r. ⌜ Wrote (now (ws .entry)) (now (ws .exit)) self r (says ends s name) next ⌝ }
     {
-        let colon = self.put(ws, s, 0x3a, next);
-        colon.put(ws, s, 0x20, next)
+        if name {
+            let colon = self.put(ws, s, 0x3a, next);
+            return colon.put(ws, s, 0x20, next);
+        }
+        self.onto(next)
     }
 }
 
@@ -164,7 +169,7 @@ pub fn read_tape(tape: &[u8], ws: &mut [u8], style: Style) -> Answer
         last: style,
         fresh: true,
     };
-    match reader::read_list(tape, ws, start, style, 0) {
+    match reader::read_list(tape, ws, start, style, false, 0) {
         Step::Done(end) => Answer::Letters(end.count),
         Step::Refused(number, place) => Answer::Refused(number, place),
     }

@@ -1,4 +1,5 @@
 use mathlib.Core.Path.{_≡_, refl, subst}
+use mathlib.Core.Bool.{false}
 use borrow.Author.Needs.{needs}
 use Rattle.tape.specs.declared.Step.{Step}
 use Rattle.tape.specs.Reading.{ListRead}
@@ -29,11 +30,11 @@ same-length c = search needs
 
 -- the outer list was read
 list : (c : tie.After-read-list) {r : Step} → c .read-list .result ≡ r → let a = c .before .before .before .before .before .before .args in
-    ListRead (a .tape .now) (a .ws .now) (c .read-list .last .1 .0) 0 (start (a .style)) (a .style) r
+    ListRead (a .tape .now) (a .ws .now) (c .read-list .last .1 .0) false 0 (start (a .style)) (a .style) r
 list c e =
     let a = c .before .before .before .before .before .before .args in
     subst
-    (λ (r : Step). ListRead (a .tape .now) (a .ws .now) (c .read-list .last .1 .0) 0 (start (a .style)) (a .style) r)
+    (λ (r : Step). ListRead (a .tape .now) (a .ws .now) (c .read-list .last .1 .0) false 0 (start (a .style)) (a .style) r)
     e
     (c .read-list .ensures)
 
@@ -43,7 +44,7 @@ returns-3 c =
     let o = q .before .before in
     let a = o .before .before .before .before .args in
     let l = list q (c .before .end .given .1) in
-    tape-accepted (a .tape .now) (a .ws .now) (q .read-list .last .1 .0) (a .style) (o .before .if1 .left) (o .if2 .left) _ (l .0) (l .1 refl)
+    tape-accepted (a .tape .now) (a .ws .now) (q .read-list .last .1 .0) (a .style) (o .before .if1 .left) (o .if2 .left) _ (l .0) (l .1 refl refl)
 
 same-length-2 : tie.Need-same-length-2
 same-length-2 c = search needs
