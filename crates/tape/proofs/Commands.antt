@@ -78,22 +78,21 @@ else-letter c h z o a b e = go (leb c 5) refl
         rw (le-leb 2 c (omega (arith, a)), le-leb c 4 (omega (arith, b)))
     go false p = let six = leb-false c 5 p in absurd (not-open c o six (omega (arith, e)))
 
-at-least-two : (c : ℕ) → isLetter c ≡ true → 2 ≤ c
+pub letter-range : (c : ℕ) → isLetter c ≡ true → (2 ≤ c) × (c ≤ 4)
 unfolding isLetter
-at-least-two c e = leb-true 2 c (split (leb 2 c) (leb c 4) e .0)
+letter-range c e = let p = split (leb 2 c) (leb c 4) e in (leb-true 2 c (p .0), leb-true c 4 (p .1))
 
 pub letter-command : (c : ℕ) (rest : List ℕ) → isLetter c ≡ true → commandOf c rest ≡ text (codePoint c rest ∷ [])
 unfolding commandOf
 letter-command c rest e =
-    let two = at-least-two c e in
+    let r = letter-range c e in
     rw (ne-eqb c 0 (λ z. omega arith), ne-eqb c 1 (λ z. omega arith), e)
 
 pub letter-adds : (c : ℕ) (name : Bool) → isLetter c ≡ true → added name c ≡ 1
 unfolding added isLetter
 letter-adds c name e =
-    let two = at-least-two c e in
-    let four = leb-true c 4 (split (leb 2 c) (leb c 4) e .1) in
-    rw (le-leb 2 c two, le-leb c 5 (omega arith))
+    let r = letter-range c e in
+    rw (le-leb 2 c (r .0), le-leb c 5 (omega arith))
 
 -- outside of a name, and behind its 00, no command adds two
 pub added-either : (c : ℕ) (name : Bool) → 0 < c → added name c ≡ added false c
@@ -103,7 +102,7 @@ added-either c name h = rw (ne-eqb c 0 (λ e. omega arith))
 pub letter-flat : (c : ℕ) → isLetter c ≡ true → isOpener c ≡ false
 unfolding isOpener isLetter
 letter-flat c e =
-    let four = leb-true c 4 (split (leb 2 c) (leb c 4) e .1) in
+    let r = letter-range c e in
     rw (lt-leb 6 c (omega arith))
 
 -- what a name holds but its 00

@@ -1,16 +1,16 @@
 -- Operand widths, and the numbers that operand bytes spell.
-use mathlib.Core.Path.{_≡_, refl}
+use mathlib.Core.Path.{_≡_, _∙_, refl, ap}
 use mathlib.Core.Bool.{Bool, true, _&&_}
 use mathlib.Core.List.{List, [], _∷_, _++_}
-use Prim.Native.Nat.{ℕ, zero, suc, _+_, _*_, _^_, _≤_, _<_}
-use native.Mathlib.Nat.{pow-suc}
+use Prim.Native.Nat.{ℕ, zero, suc, _+_, _-_, _*_, _≤_, _<_}
+use native.Mathlib.Nat.{add-zero, add-assoc}
 use native.Mathlib.Numerals.{add-one}
 use native.Mathlib.Omega.{arith}
-use lib.Dec.{T, leb, leb→le, lit≤}
+use lib.Dec.{T, leb, leb→le}
 use lib.Ieee.Fits.{and-l, and-r}
 use lib.ListN.{length, take, drop, getD, length-drop}
 use lib.Seq.{take-suc, getD-drop}
-use Rattle.tape.specs.Command.{width, widths, numberFrom}
+use Rattle.tape.specs.Command.{width, widths, numberFrom, codePoint}
 
 abbrev atMost : ℕ → List ℕ → Bool
 atMost m [] = true
@@ -29,23 +29,36 @@ number-snoc v [] b = refl
 number-snoc v (a ∷ bs) b = number-snoc (v * 256 + a) bs b
 
 -- one byte more
-pub number-more : (l : List ℕ) (from i : ℕ) → from + i < length l
+number-more : (l : List ℕ) (from i : ℕ) → from + i < length l
     → numberFrom 0 (take (i + 1) (drop from l)) ≡ numberFrom 0 (take i (drop from l)) * 256 + getD l (from + i) 0
 number-more l from i h =
     let k : i < length (drop from l) = simp length-drop (omega arith) in
     rw (add-one, take-suc (drop from l) i 0 k, number-snoc 0 (take i (drop from l)), getD-drop)
 
--- i bytes spell a number below 256^i
-pub pow-more : (i v b : ℕ) → v < 256 ^ i → b < 256 → v * 256 + b < 256 ^ (i + 1)
-pow-more i v b h k = rw (add-one, pow-suc) (omega arith)
+-- the code points of 02, 03 and 04 at a place
+module _ (l : List ℕ) (at : ℕ) where
+  pub spells-1 : at + 1 < length l → codePoint 2 (drop (at + 1) l) ≡ getD l (at + 1) 0
+  unfolding codePoint
+  spells-1 h = let e = number-more l (at + 1) 0 (omega arith) in rw add-zero at e ∙ omega arith
 
-pub pow-most : (i : ℕ) → i ≤ 3 → 256 ^ i ≤ 16777216
-pow-most zero h = lit≤ tt
-pow-most (suc zero) h = lit≤ tt
-pow-most (suc (suc zero)) h = lit≤ tt
-pow-most (suc (suc (suc zero))) h = lit≤ tt
-pow-most (suc (suc (suc (suc i)))) h = omega arith
+  pub spells-2 : at + 2 < length l → codePoint 3 (drop (at + 1) l) ≡ getD l (at + 1) 0 * 256 + getD l (at + 2) 0
+  unfolding codePoint
+  spells-2 h =
+      number-more l (at + 1) 1 (omega arith)
+      ∙ rw (add-assoc) (ap (λ (v : ℕ). v * 256 + getD l (at + 2) 0) (spells-1 (omega arith)))
 
--- and there is room for one more of three
-pub pow-room : (i : ℕ) → i < 3 → 256 ^ i * 256 ≤ 16777216
-pow-room i h = rw (← pow-suc) (pow-most (suc i) h)
+  pub spells-3 : at + 3 < length l
+      → codePoint 4 (drop (at + 1) l) ≡ (getD l (at + 1) 0 * 256 + getD l (at + 2) 0) * 256 + getD l (at + 3) 0
+  unfolding codePoint
+  spells-3 h =
+      number-more l (at + 1) 2 (omega arith)
+      ∙ rw (add-assoc) (ap (λ (v : ℕ). v * 256 + getD l (at + 3) 0) (spells-2 (omega arith)))
+
+-- a letter's width
+pub letter-width : (c : ℕ) → 2 ≤ c → c ≤ 4 → width c ≡ c - 1
+letter-width zero h k = absurd (omega arith)
+letter-width (suc zero) h k = absurd (omega arith)
+letter-width (suc (suc zero)) h k = refl
+letter-width (suc (suc (suc zero))) h k = refl
+letter-width (suc (suc (suc (suc zero)))) h k = refl
+letter-width (suc (suc (suc (suc (suc c))))) h k = absurd (omega arith)

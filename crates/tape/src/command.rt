@@ -1,11 +1,11 @@
 // The tape's commands: what each is, and what is refused in one.
 ghost use mathlib.Core.Path.{_≡_};
-ghost use mathlib.Core.Bool.{not, _&&_, _||_};
+ghost use mathlib.Core.Bool.{true, not, _&&_, _||_};
 ghost use Prim.Native.Nat.{_+_, _≤_, _<_};
-ghost use lib.ListN.{length, take, drop};
+ghost use lib.ListN.{length};
 ghost use lib.Dec.{eqb};
 ghost use Rattle.tape.specs.Style.{inside};
-ghost use Rattle.tape.specs.Command.{deepest, mostLetters, width, numberFrom, codePoint, isLetter, isOpener, isScalar, added, faultOf, openerOf};
+ghost use Rattle.tape.specs.Command.{deepest, mostLetters, width, codePoint, isLetter, isOpener, isScalar, added, faultOf, openerOf};
 ghost use Rattle.tape.specs.Reading.{byteAt, restAt};
 use crate::Style;
 
@@ -44,26 +44,27 @@ fn is_scalar(v: u32) -> bool
     if 0xdfff < v { v <= 0x10_ffff } else { false }
 }
 
-// The number that w bytes spell.
-fn number_at(tape: &[u8], from: usize, w: usize) -> u32
-    requires { ⌜ (from + w ≤ length (now tape)) × (w ≤ 3) ⌝ }
-    ensures { λ r. ⌜ (r ≡ numberFrom 0 (take w (drop from (now (tape .entry))))) × (r < 16777216) ⌝ }
+fn wide(x: u8) -> u32
+    ensures { λ r. ⌜ (r ≡ x) × (r < 256) ⌝ }
 {
-    let mut v: u32 = 0;
-    let mut i: usize = 0;
-    while i < w {
-        v = v * 256 + tape[from + i] as u32;
-        i += 1;
-    }
-    v
+    x as u32
 }
 
-// The code point of the letter command at a place.
+// The code point of the letter command at a place, one to three bytes.
 pub fn code_point(tape: &[u8], at: usize) -> u32
-    requires { ⌜ (byteAt (now tape) at < 12) × (at + width (byteAt (now tape) at) < length (now tape)) ⌝ }
+    requires { ⌜ (isLetter (byteAt (now tape) at) ≡ true) × (at + width (byteAt (now tape) at) < length (now tape)) ⌝ }
     ensures { λ r. ⌜ (r ≡ codePoint (byteAt (now (tape .entry)) at) (restAt (now (tape .entry)) at)) × (r < 16777216) ⌝ }
 {
-    number_at(tape, at + 1, operand_width(tape[at]))
+    let c = tape[at];
+    let high = wide(tape[at + 1]);
+    if c == 0x02 {
+        return high;
+    }
+    let middle = high * 256 + wide(tape[at + 2]);
+    if c == 0x03 {
+        return middle;
+    }
+    middle * 256 + wide(tape[at + 3])
 }
 
 // How many letters a command adds.

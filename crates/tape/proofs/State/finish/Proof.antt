@@ -1,6 +1,5 @@
-use mathlib.Core.Path.{_≡_, refl, ap}
-use mathlib.Core.Bool.{Bool, true}
-use Prim.Native.Nat.{ℕ}
+use mathlib.Core.Path.{refl, ap}
+use mathlib.Core.Bool.{Bool}
 use native.Mathlib.Omega.{arith}
 use Rattle.tape.specs.declared.State.{State}
 use Rattle.tape.specs.Command.{added}

@@ -1,32 +1,121 @@
+use mathlib.Core.Path.{_≡_, _∙_, sym, ap₂}
+use Prim.Native.Nat.{ℕ, _+_, _*_, _≤_}
+use native.Mathlib.Omega.{arith}
+use lib.ListN.{length}
+use Rattle.tape.specs.Reading.{byteAt}
+use Rattle.tape.proofs.Commands.{letter-range}
+use Rattle.tape.proofs.Numbers.{letter-width, spells-1, spells-2, spells-3}
 use borrow.Author.Needs.{needs}
-use Rattle.tape.specs.Command.{codePoint}
 use Rattle.tape.proofs.command.code_point.Statement.{statement}
 use Rattle.tape.proofs.command.code_point.Tie as tie
 
-add-number-at : tie.Need-add-number-at
-add-number-at c = search needs
+-- the command is 02, 03 or 04, and whole
+reach : (c : tie.Start) → let k = byteAt (c .args .tape .now) (c .args .at) in (2 ≤ k) × (k ≤ 4) × (c .args .at + k ≤ length (c .args .tape .now))
+reach c =
+    let r = letter-range _ (c .pre .0) in
+    let w = letter-width _ (r .0) (r .1) in
+    let whole = c .pre .1 in
+    (r .0, r .1, omega arith)
 
-shared-slice-read-operand-width : tie.Need-shared-slice-read-operand-width
-shared-slice-read-operand-width c = search needs
+last : (k : ℕ) → 2 ≤ k → k ≤ 4 → (k ≡ 2 → ⊥) → (k ≡ 3 → ⊥) → k ≡ 4
+last k h l two three = omega (arith, two, three)
 
-operand-width-requires : tie.Need-operand-width-requires
-operand-width-requires c κs = search needs
+four : (c : tie.Else2) → let s = c .before .before .before .before .before .before .before .before in byteAt (s .args .tape .now) (s .args .at) ≡ 4
+four c =
+    let e = c .before .before .before in
+    let r = reach (e .before .before .before .before .before) in
+    last _ (r .0) (r .1) (e .if1 .left) (c .if2 .left)
 
-number-at-requires : tie.Need-number-at-requires
-number-at-requires c κs = search needs
+shared-slice-read-c : tie.Need-shared-slice-read-c
+shared-slice-read-c c = search needs
+
+add-wide : tie.Need-add-wide
+add-wide c = search needs
+
+shared-slice-read-wide : tie.Need-shared-slice-read-wide
+shared-slice-read-wide c = let r = reach (c .before .before .before) in omega arith
+
+wide-requires : tie.Need-wide-requires
+wide-requires c κs = search needs
 
 returns : tie.Need-returns
-unfolding codePoint
 returns c =
-    let n = c .number-at .ensures in
-    (rw (← c .before .operand-width .ensures .0) (n .0), n .1)
+    let w = c .before .wide .ensures in
+    let s = c .before .before .before .before .before in
+    let r = reach s in
+    (rw (c .if1 .taken) (w .0 ∙ sym (spells-1 (s .args .tape .now) (s .args .at) (omega arith))), omega arith)
+
+mul-middle : tie.Need-mul-middle
+mul-middle c = search needs
+
+add-wide-2 : tie.Need-add-wide-2
+add-wide-2 c = search needs
+
+shared-slice-read-wide-2 : tie.Need-shared-slice-read-wide-2
+shared-slice-read-wide-2 c = let r = reach (c .before .before .before .before .before .before) in omega (arith, c .before .if1 .left)
+
+wide-requires-2 : tie.Need-wide-requires-2
+wide-requires-2 c κs = search needs
+
+add-middle : tie.Need-add-middle
+add-middle c = search needs
+
+returns-2 : tie.Need-returns-2
+returns-2 c =
+    let w = c .before in
+    let v = w .before .before .before in
+    let s = v .before .before .before .before in
+    let r = reach s in
+    let is = ap₂ (λ (x y : ℕ). x * 256 + y) (v .wide .ensures .0) (w .wide2 .ensures .0) in
+    (rw (c .if2 .taken) (is ∙ sym (spells-2 (s .args .tape .now) (s .args .at) (omega arith))), omega arith)
+
+mul-result : tie.Need-mul-result
+mul-result c = search needs
+
+add-wide-3 : tie.Need-add-wide-3
+add-wide-3 c = search needs
+
+shared-slice-read-wide-3 : tie.Need-shared-slice-read-wide-3
+shared-slice-read-wide-3 c =
+    let o = c .before in
+    let r = reach (o .before .before .before .before .before .before .before .before) in
+    omega (arith, four o)
+
+wide-requires-3 : tie.Need-wide-requires-3
+wide-requires-3 c κs = search needs
+
+add-result : tie.Need-add-result
+add-result c = search needs
+
+returns-3 : tie.Need-returns-3
+returns-3 c =
+    let o = c .before .before in
+    let w = o .before in
+    let v = w .before .before .before in
+    let s = v .before .before .before .before in
+    let r = reach s in
+    let k = four o in
+    let is = ap₂ (λ (x y : ℕ). (x * 256 + y) * 256 + c .wide3 .result) (v .wide .ensures .0) (w .wide2 .ensures .0) in
+    (rw k (is ∙ rw (c .wide3 .ensures .0) (sym (spells-3 (s .args .tape .now) (s .args .at) (omega arith)))), omega arith)
 
 pub code-point-spec : {M : Type 1} → statement M
 code-point-spec =
     tie.close
     (tie.spec
-    add-number-at
-    shared-slice-read-operand-width
-    operand-width-requires
-    number-at-requires
-    returns)
+    shared-slice-read-c
+    add-wide
+    shared-slice-read-wide
+    wide-requires
+    returns
+    mul-middle
+    add-wide-2
+    shared-slice-read-wide-2
+    wide-requires-2
+    add-middle
+    returns-2
+    mul-result
+    add-wide-3
+    shared-slice-read-wide-3
+    wide-requires-3
+    add-result
+    returns-3)

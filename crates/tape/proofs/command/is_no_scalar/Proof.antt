@@ -1,4 +1,4 @@
-use mathlib.Core.Path.{ap}
+use mathlib.Core.Path.{_∙_, sym, ap}
 use mathlib.Core.Bool.{not}
 use borrow.Author.Needs.{needs}
 use Rattle.tape.proofs.command.is_no_scalar.Statement.{statement}
@@ -11,7 +11,9 @@ is-letter-requires : tie.Need-is-letter-requires
 is-letter-requires c κs = search needs
 
 code-point-requires : tie.Need-code-point-requires
-code-point-requires c κs = search needs
+code-point-requires c κs =
+    let p = c .before .before .before .before .pre in
+    (sym (c .before .is-letter .ensures) ∙ c .if1 .taken, p .1)
 
 is-scalar-requires : tie.Need-is-scalar-requires
 is-scalar-requires c κs = search needs

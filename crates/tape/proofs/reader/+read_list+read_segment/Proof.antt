@@ -1,11 +1,11 @@
 use mathlib.Core.Path.{_≡_, _∙_, refl, sym, ap, subst}
-use mathlib.Core.Bool.{Bool, true, false, not}
+use mathlib.Core.Bool.{true, false, not}
 use mathlib.Core.List.{[]}
 use Prim.Native.Nat.{ℕ, _+_, _*_, _-_, _≤_, _<_}
 use native.Mathlib.Nat.{add-zero}
 use native.Mathlib.Omega.{arith}
 use borrow.Author.Needs.{needs}
-use borrow.Author.Tests.{eqb-true, eqb-false, not-true, not-false}
+use borrow.Author.Tests.{eqb-true, not-true, not-false}
 use borrow.Fn.Kinds.{In}
 use borrow.Fn.PlainCycle.{Measures, is, falls, and}
 use lib.Dec.{eqb}
@@ -335,8 +335,7 @@ name t c e =
     let r = c .read-list .result in
     subst
     (λ (x : Step). Reads (a .tape .now) (a .ws .now) (c .read-list .last .1 .0) (a .depth) (within (a .style) (a .name)) (past (a .style) true) (a .st) x × Onward (a .st) x)
-    e
-    (
+    e (
       then-reads (a .tape .now) (a .depth) (past (a .style) true) _ r (passed t (v .before) voice (named t v) refl) (c .read-list .ensures .0),
       onward (a .tape .now) (a .depth) _ _ _ _ (a .st) _ r (on t (v .before)) (c .read-list .ensures .0),
     )

@@ -72,7 +72,9 @@ letter c =
     else-letter _ (p .known) (p .some) (p .flat) (c .before .before .if1 .left) (c .before .if2 .left) (c .if3 .left)
 
 code-point-requires : tie.Need-code-point-requires
-code-point-requires c κs = search needs
+code-point-requires c κs =
+    let whole = c .before .before .before .before .before .before .before .before .pre .whole in
+    (letter (c .before), omega arith)
 
 put-requires-2 : tie.Need-put-requires-2
 put-requires-2 c κs =
