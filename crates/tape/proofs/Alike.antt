@@ -71,7 +71,8 @@ alike-split s us vs =
           };
     }
   where
-    split : (m : List Run) (q : Run) (t : Bool) → sameStyle (q .style) s ≡ t → mergeInto q (run s us ∷ run s vs ∷ m) ≡ mergeInto q (run s (us ++ vs) ∷ m)
+    split : (m : List Run) (q : Run) (t : Bool) → sameStyle (q .style) s ≡ t
+        → mergeInto q (run s us ∷ run s vs ∷ m) ≡ mergeInto q (run s (us ++ vs) ∷ m)
     split m q true h = rw (h, append-assoc)
     split m q false h = rw (h, same-refl s)
 

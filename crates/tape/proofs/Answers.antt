@@ -49,7 +49,8 @@ fits s room tape = long (ltb mostBytes (length tape)) refl (ltb room leastRoom) 
     own (accepted ls) h k b = (b, h, k)
     own (refused number place) h k b = let most = b .most in let on = b .on in (omega arith, on, omega arith)
 
-    long : (t : Bool) → ltb mostBytes (length tape) ≡ t → (u : Bool) → ltb room leastRoom ≡ u → Fits tape room (refuseIf t 10 0 (refuseIf u 11 0 (tapeLetters s tape)))
+    long : (t : Bool) → ltb mostBytes (length tape) ≡ t → (u : Bool) → ltb room leastRoom ≡ u
+        → Fits tape room (refuseIf t 10 0 (refuseIf u 11 0 (tapeLetters s tape)))
     long true e u f = (lit≤ tt, omega arith, lit≤ tt)
     long false e true f = (lit≤ tt, omega arith, lit≤ tt)
     long false e false f = own (tapeLetters s tape) (ltb-false mostBytes (length tape) e) (ltb-false room leastRoom f) (letters-bounded s tape)
@@ -60,7 +61,8 @@ module _ {tape ws ws' : List ℕ} {s : Style} where
   pub letters-are : {n : ℕ} → TapeRead tape ws ws' s (Answer.Letters n) → Accepted tape ws ws' s n
   letters-are {n} r = go (tapeRead s (length ws) tape) refl (r .answers) (r .leaves) (fits s (length ws) tape)
     where
-      go : (o : Outcome (List Letter)) → tapeRead s (length ws) tape ≡ o → Answer.Letters n ≡ answerOf o → Left o ws ws' → Fits tape (length ws) o → Accepted tape ws ws' s n
+      go : (o : Outcome (List Letter)) → tapeRead s (length ws) tape ≡ o → Answer.Letters n ≡ answerOf o → Left o ws ws'
+          → Fits tape (length ws) o → Accepted tape ws ws' s n
       go (accepted ls) e a l f =
           let count : n ≡ length ls = cc in
           let few = f .0 in
@@ -70,7 +72,8 @@ module _ {tape ws ws' : List ℕ} {s : Style} where
   pub refusal-is : {number place : ℕ} → TapeRead tape ws ws' s (Answer.Refused number place) → Refused tape ws ws' s number place
   refusal-is {number} {place} r = go (tapeRead s (length ws) tape) refl (r .answers) (r .leaves) (fits s (length ws) tape)
     where
-      go : (o : Outcome (List Letter)) → tapeRead s (length ws) tape ≡ o → Answer.Refused number place ≡ answerOf o → Left o ws ws' → Fits tape (length ws) o → Refused tape ws ws' s number place
+      go : (o : Outcome (List Letter)) → tapeRead s (length ws) tape ≡ o → Answer.Refused number place ≡ answerOf o → Left o ws ws'
+          → Fits tape (length ws) o → Refused tape ws ws' s number place
       go (accepted ls) e a l f = let z : _≡_ {A = ℕ} 0 1 = cc in absurd (omega arith)
       go (refused k p) e a l f =
           let same : k ≡ number = cc in

@@ -75,7 +75,8 @@ command-sane c rest f place n l o ih = go (faultOf (f .name) (length (f .around)
         let most = fault-most (f .name) (length (f .around)) n c rest in
         record { least = omega arith; most = omega arith; on = omega arith }
 
-read-sane : (l : List ℕ) (skip : ℕ) (f : Frame) (place n : ℕ) (la : Last) → n ≤ mostLetters → Sane la n (place + length l) (read skip f place n l)
+read-sane : (l : List ℕ) (skip : ℕ) (f : Frame) (place n : ℕ) (la : Last) → n ≤ mostLetters
+    → Sane la n (place + length l) (read skip f place n l)
 unfolding read
 read-sane [] skip f place n la h =
     let e : place + 0 ≡ place = omega arith in
@@ -94,6 +95,7 @@ pub letters-bounded : (s : Style) (tape : List ℕ) → Bounded (length tape) (t
 unfolding tapeLetters tapeRuns
 letters-bounded s tape = to (read 0 (frame s [] false) 0 0 tape) (read-sane tape 0 (frame s [] false) 0 0 (last s true) (omega arith))
   where
-    to : (o : Outcome (List Run)) → Sane (last s true) 0 (0 + length tape) o → Bounded (length tape) (onAccepted lettersOf (onAccepted merge o))
+    to : (o : Outcome (List Run)) → Sane (last s true) 0 (0 + length tape) o
+        → Bounded (length tape) (onAccepted lettersOf (onAccepted merge o))
     to (accepted rs) h = let e = ap length (marked-merged s rs) in omega arith
     to (refused number place) h = let on = h .on in record { least = h .least; most = h .most; on = omega arith }

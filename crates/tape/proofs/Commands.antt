@@ -42,7 +42,8 @@ unfolding added
 from-six-adds c name h = rw (le-leb 2 c (omega arith), lt-leb c 5 (omega arith), ne-eqb c 0 (λ e. omega arith))
 
 -- a command adds as many letters as its runs have
-pub says-added : (c : ℕ) (rest : List ℕ) (name : Bool) (l : Last) (s : Style) → length (marked l (says (commandOf c rest) s name)) ≡ added name c
+pub says-added : (c : ℕ) (rest : List ℕ) (name : Bool) (l : Last) (s : Style)
+    → length (marked l (says (commandOf c rest) s name)) ≡ added name c
 unfolding commandOf added isLetter
 says-added zero rest true l s = refl
 says-added zero rest false l s = refl

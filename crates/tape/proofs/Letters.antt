@@ -13,7 +13,8 @@ use Rattle.tape.proofs.Stores.{length-cells}
 abbrev bytesOf : Letter → List ℕ
 bytesOf l = cellOf (l .code) (l .style) (l .start)
 
-in-cells : (ls : List Letter) (d : Letter) (i j : ℕ) → i < length ls → j < 8 → getD (cells ls) (8 * i + j) 0 ≡ getD (bytesOf (getD ls i d)) j 0
+in-cells : (ls : List Letter) (d : Letter) (i j : ℕ) → i < length ls → j < 8
+    → getD (cells ls) (8 * i + j) 0 ≡ getD (bytesOf (getD ls i d)) j 0
 in-cells [] d i j h k = absurd (omega arith)
 in-cells (l ∷ ls) d zero j h k =
     let e : 8 * 0 + j ≡ j = omega arith in

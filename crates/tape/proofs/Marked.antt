@@ -35,7 +35,8 @@ letters-append s b (u ∷ us) vs = ap (λ (ls : List Letter). record { code = u;
     later s (u ∷ us) vs = ap (λ (ls : List Letter). record { code = u; style = s; start = false } ∷ ls) (later s us vs)
 
 -- the letters of a run, and of the runs after it
-letters-after : (q : Run) (rs : List Run) → lettersOf (mergeInto q rs) ≡ lettersIn (q .style) true (q .text) ++ marked (last (q .style) (empty (q .text))) rs
+letters-after : (q : Run) (rs : List Run)
+    → lettersOf (mergeInto q rs) ≡ lettersIn (q .style) true (q .text) ++ marked (last (q .style) (empty (q .text))) rs
 unfolding mergeInto lettersOf
 letters-after q [] = refl
 letters-after q (r ∷ rs) = go (letters-after (run (q .style) (q .text ++ r .text)) rs) (letters-after r rs) (sameStyle (q .style) (r .style)) refl

@@ -56,7 +56,8 @@ wrote-append a rs qs m at =
       add-assoc,
     )
 
-pub wrote-then : {u v w : List ℕ} {a b c : State} {rs qs : List Run} {m at : ℕ} → Wrote u v a b rs m → Wrote v w b c qs at → Wrote u w a c (rs ++ qs) at
+pub wrote-then : {u v w : List ℕ} {a b c : State} {rs qs : List Run} {m at : ℕ} → Wrote u v a b rs m → Wrote v w b c qs at
+    → Wrote u w a c (rs ++ qs) at
 wrote-then {u} {v} {w} {a} {b} {c} {rs} {qs} {m} {at} h k =
     record {
       state = k .state ∙ ap (λ (x : State). wrote x qs at) (h .state) ∙ wrote-append a rs qs m at;

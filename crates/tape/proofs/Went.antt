@@ -56,12 +56,14 @@ module _ (tape : List ℕ) (depth : ℕ) where
       → Stopped tape depth Y b number place → Stopped tape depth X a number place
   went-stopped h k around e = h .same around e ∙ ap (after (h .runs)) (k around e)
 
-  pub then-reads : {X Y : List Style → Frame} (Z : List Style → Frame) {u v : List ℕ} (w : List ℕ) {a b : State} (r : Step) → Went tape u v depth X Y a b
+  pub then-reads : {X Y : List Style → Frame} (Z : List Style → Frame) {u v : List ℕ} (w : List ℕ) {a b : State} (r : Step)
+      → Went tape u v depth X Y a b
       → Reads tape v w depth Y Z b r → Reads tape u w depth X Z a r
   then-reads Z w (Done c) h k = went-then h k
   then-reads Z w (Refused number place) h k = went-stopped h k
 
-  pub onward : (X Y : List Style → Frame) (u v : List ℕ) (a b : State) (r : Step) → a .at < b .at → Reads tape u v depth X Y b r → Onward a r
+  pub onward : (X Y : List Style → Frame) (u v : List ℕ) (a b : State) (r : Step) → a .at < b .at → Reads tape u v depth X Y b r
+      → Onward a r
   onward X Y u v a b (Done c) h k = let on = k .on in omega arith
   onward X Y u v a b (Refused number place) h k = tt
 

@@ -26,7 +26,8 @@ too-long tape ws s h =
     let e = lt-ltb mostBytes (length tape) h in
     record { answers = rw e; leaves = rw e (λ k. refl) }
 
-pub too-small : (tape ws : List ℕ) (s : Style) → length tape ≤ mostBytes → length ws < leastRoom → TapeRead tape ws ws s (Answer.Refused 11 0)
+pub too-small : (tape ws : List ℕ) (s : Style) → length tape ≤ mostBytes → length ws < leastRoom
+    → TapeRead tape ws ws s (Answer.Refused 11 0)
 unfolding tapeRead
 too-small tape ws s h k =
     let e = le-ltb mostBytes (length tape) h in
@@ -34,7 +35,8 @@ too-small tape ws s h k =
     record { answers = rw (e, f); leaves = rw (e, f) (λ n. refl) }
 
 -- where both lengths are admitted, the call comes to what the tape means
-pub fitting : (tape ws : List ℕ) (s : Style) → length tape ≤ mostBytes → leastRoom ≤ length ws → tapeRead s (length ws) tape ≡ tapeLetters s tape
+pub fitting : (tape ws : List ℕ) (s : Style) → length tape ≤ mostBytes → leastRoom ≤ length ws
+    → tapeRead s (length ws) tape ≡ tapeLetters s tape
 unfolding tapeRead
 fitting tape ws s h k = rw (le-ltb mostBytes (length tape) h, le-ltb (length ws) leastRoom k)
 
@@ -55,13 +57,15 @@ module _ (tape ws ws' : List ℕ) (s : Style) (h : length tape ≤ mostBytes) (k
   unfolding tapeLetters tapeRuns from
   unfolds = refl
 
-  pub tape-refused : (number place : ℕ) → Stopped tape 0 (within s false) (start s) number place → TapeRead tape ws ws' s (Answer.Refused number place)
+  pub tape-refused : (number place : ℕ) → Stopped tape 0 (within s false) (start s) number place
+      → TapeRead tape ws ws' s (Answer.Refused number place)
   tape-refused number place f =
       let e : tapeLetters s tape ≡ refused number place = unfolds ∙ ap (λ (o : Outcome (List Run)). onAccepted lettersOf (onAccepted merge o)) (f [] refl) in
       let own = subst (λ (o : Outcome (List Letter)). Bounded (length tape) o) e (letters-bounded s tape) in
       told tape ws ws' s (refused number place) h k e (λ ten. let most = own .most in absurd (omega arith))
 
-  pub tape-accepted : (end : State) → Went tape ws ws' 0 (within s false) (past s false) (start s) end → length tape ≤ end .at → TapeRead tape ws ws' s (Answer.Letters (end .count))
+  pub tape-accepted : (end : State) → Went tape ws ws' 0 (within s false) (past s false) (start s) end → length tape ≤ end .at
+      → TapeRead tape ws ws' s (Answer.Letters (end .count))
   tape-accepted end w g =
       let ls : List Letter = marked (last s true) (w .runs) in
       let rs : from tape (within s false []) 0 0 ≡ accepted (w .runs) =

@@ -117,11 +117,13 @@ module _ (s : Style) (around : List Style) (name : Bool) (n : ℕ) where
           (ap (λ (x : ℕ). n + x) (letter-adds c name l))
           k
 
-      long : ltb v 0x100 ≡ false → (t : Bool) → ltb v 0x10000 ≡ t → Means (frame s around name) (frame s around name) n (n + 1) (run s (v ∷ []) ∷ []) (letterBytes v)
+      long : ltb v 0x100 ≡ false → (t : Bool) → ltb v 0x10000 ≡ t
+          → Means (frame s around name) (frame s around name) n (n + 1) (run s (v ∷ []) ∷ []) (letterBytes v)
       long a true e = rw (a, e) (as-command 3 (v / 256 ∷ v % 256 ∷ []) (lit< tt) three refl refl (λ rest. spells-2 v rest))
       long a false e = rw (a, e) (as-command 4 (v / 65536 ∷ v / 256 % 256 ∷ v % 256 ∷ []) (lit< tt) four refl refl (λ rest. spells-3 v rest))
 
-      short : (t : Bool) → ltb v 0x100 ≡ t → Means (frame s around name) (frame s around name) n (n + 1) (run s (v ∷ []) ∷ []) (letterBytes v)
+      short : (t : Bool) → ltb v 0x100 ≡ t
+          → Means (frame s around name) (frame s around name) n (n + 1) (run s (v ∷ []) ∷ []) (letterBytes v)
       short true e = rw e (as-command 2 (v ∷ []) (lit< tt) two refl refl (λ rest. spells-1 v rest))
       short false e = long e (ltb v 0x10000) refl
 
@@ -147,7 +149,8 @@ module _ (s : Style) (around : List Style) (n : ℕ) where
       let shallow : eqb (length around) deepest ≡ false = ne-eqb (length around) deepest (λ e. omega arith) in
       go o shallow
     where
-      go : (o : Opener) → eqb (length around) deepest ≡ false → Means (frame s around false) (frame (inside o s) (s ∷ around) false) n n [] (openerBytes o)
+      go : (o : Opener) → eqb (length around) deepest ≡ false
+          → Means (frame s around false) (frame (inside o s) (s ∷ around) false) n n [] (openerBytes o)
       go bold e = means-command s around false n 6 [] (opens bold) n (lit< tt) refl e refl refl (λ rest. refl) (λ rest. refl) (add-zero n) h
       go italic e = means-command s around false n 7 [] (opens italic) n (lit< tt) refl e refl refl (λ rest. refl) (λ rest. refl) (add-zero n) h
       go (color r g b) e = means-command s around false n 8 (r ∷ g ∷ b ∷ []) (opens (color r g b)) n (lit< tt) refl e refl refl (λ rest. refl) (λ rest. refl) (add-zero n) h
@@ -161,7 +164,8 @@ module _ (s : Style) (around : List Style) (n : ℕ) where
   unfolding isLetter isOpener added commandOf
   means-voice h d = means-command s around false n 9 [] voice n (lit< tt) refl (ne-eqb (length around) deepest (λ e. omega arith)) refl refl (λ rest. refl) (λ rest. refl) (add-zero n) h
 
-  means-colon : n + 2 ≤ mostLetters → Means (frame s around true) (frame s (s ∷ around) false) n (n + 2) (run s (0x3a ∷ 0x20 ∷ []) ∷ []) (0x00 ∷ [])
+  means-colon : n + 2 ≤ mostLetters
+      → Means (frame s around true) (frame s (s ∷ around) false) n (n + 2) (run s (0x3a ∷ 0x20 ∷ []) ∷ []) (0x00 ∷ [])
   unfolding isLetter isOpener added commandOf
   means-colon h = means-command s around true n 0 [] ends (n + 2) (lit< tt) refl refl refl refl (λ rest. refl) (λ rest. refl) refl h
 
@@ -195,7 +199,8 @@ means-name s around n name h k =
     (means-then (means-letters s around true n name h (omega arith)) (means-colon s around (n + length name) k))
 
 mutual
-  means-segment : (g : Segment) (s : Style) (around : List Style) (n : ℕ) → length around + depth g ≤ deepest → n + letters g ≤ mostLetters → writable g ≡ true
+  means-segment : (g : Segment) (s : Style) (around : List Style) (n : ℕ) → length around + depth g ≤ deepest → n + letters g ≤ mostLetters
+      → writable g ≡ true
       → Means (frame s around false) (frame s around false) n (n + letters g) (walk g s) (written g)
   means-segment (Segment.text []) s around n d k h = rw add-zero (means-empty s around n (omega arith))
   means-segment (Segment.text (v ∷ vs)) s around n d k h = like (alike-spelled s v vs) (means-letters s around false n (v ∷ vs) h k)
@@ -214,7 +219,8 @@ mutual
       (means-then (means-name s around n name (p .0) (omega arith))
       (means-list s s around (omega arith) (means-segments gs s (s ∷ around) m (omega arith) (omega arith) (p .1)))))
 
-  means-segments : (gs : Segments) (s : Style) (around : List Style) (n : ℕ) → length around + depthList gs ≤ deepest → n + lettersList gs ≤ mostLetters → writableList gs ≡ true
+  means-segments : (gs : Segments) (s : Style) (around : List Style) (n : ℕ) → length around + depthList gs ≤ deepest
+      → n + lettersList gs ≤ mostLetters → writableList gs ≡ true
       → Means (frame s around false) (frame s around false) n (n + lettersList gs) (walkList gs s) (writtenList gs)
   means-segments none s around n d k h = means-letters s around false n [] refl k
   means-segments (g then gs) s around n d k h =

@@ -104,7 +104,8 @@ pub record Went (tape ws ws' : List ℕ) (depth : ℕ) (X Y : List Style → Fra
   pub on : a .at ≤ b .at
   pub to : b .at ≤ length tape
   pub few : b .count ≤ mostLetters
-  pub same : (around : List Style) → length around ≡ depth → from tape (X around) (a .at) (a .count) ≡ after runs (from tape (Y around) (b .at) (b .count))
+  pub same : (around : List Style) → length around ≡ depth
+      → from tape (X around) (a .at) (a .count) ≡ after runs (from tape (Y around) (b .at) (b .count))
 
 -- the tape is refused from a on
 abbrev pub Stopped : List ℕ → ℕ → (List Style → Frame) → State → ℕ → ℕ → Type 0

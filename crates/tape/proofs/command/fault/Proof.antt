@@ -86,7 +86,8 @@ returns-6 c =
     let more = c .before .letters-added .ensures .0 in
     sym (left-5 (c .before .before) ∙ rw (← more, lt-ltb _ _ (c .if6 .taken)))
 
-left-6 : (c : tie.Else6) → Left (c .before .before .before .before .before .before .before .before .before .before .before .before .before) from3
+left-6 : (c : tie.Else6)
+    → Left (c .before .before .before .before .before .before .before .before .before .before .before .before .before) from3
 left-6 c =
     let more = c .before .letters-added .ensures .0 in
     left-5 (c .before .before) ∙ rw (← more, le-ltb _ _ (c .if6 .left))

@@ -100,16 +100,19 @@ read-list-Inv-loop tape ws₀ style name depth s₀ ws s = Went tape ws₀ ws de
 abbrev read-list-μ-loop : read-list-lts.MeasureT-loop
 read-list-μ-loop tape ws₀ style name depth s₀ ws s = length tape - s .at
 
-read-list-loop-holds : (t : ℕ) → read-list-lts.Need-loop-holds (list-claims t) (read-list-at t) read-list.Post read-list-Inv-loop read-list-μ-loop
+read-list-loop-holds : (t : ℕ)
+    → read-list-lts.Need-loop-holds (list-claims t) (read-list-at t) read-list.Post read-list-Inv-loop read-list-μ-loop
 read-list-loop-holds t c =
     let st = c .before .before in
     let a = st .args in
     went-none (a .tape .now) (a .depth) (within (a .style) (a .name)) (a .ws .now) (a .st) (st .pre .1 .0 .on) (st .pre .1 .0 .few)
 
-read-list-fault-requires : (t : ℕ) → read-list-lts.Need-fault-requires (list-claims t) (read-list-at t) read-list.Post read-list-Inv-loop read-list-μ-loop
+read-list-fault-requires : (t : ℕ)
+    → read-list-lts.Need-fault-requires (list-claims t) (read-list-at t) read-list.Post read-list-Inv-loop read-list-μ-loop
 read-list-fault-requires t c κs = (c .if1 .taken, c .before .before .loop .inv .few)
 
-read-list-same-length : (t : ℕ) → read-list-lts.Need-same-length (list-claims t) (read-list-at t) read-list.Post read-list-Inv-loop read-list-μ-loop
+read-list-same-length : (t : ℕ)
+    → read-list-lts.Need-same-length (list-claims t) (read-list-at t) read-list.Post read-list-Inv-loop read-list-μ-loop
 read-list-same-length t c = wrote-length (c .before .before .before .before .loop .inv .stored)
 
 read-list-returns : (t : ℕ) → read-list-lts.Need-returns (list-claims t) (read-list-at t) read-list.Post read-list-Inv-loop read-list-μ-loop
@@ -132,13 +135,16 @@ sound t c =
     let same = wrote-length (l .inv .stored) in
     record { inside = c .before .before .if1 .taken; clear = sym (c .before .fault .ensures) ∙ c .if2 .left; space = omega arith }
 
-read-list-shared-slice-read-if3 : (t : ℕ) → read-list-lts.Need-shared-slice-read-if3 (list-claims t) (read-list-at t) read-list.Post read-list-Inv-loop read-list-μ-loop
+read-list-shared-slice-read-if3 : (t : ℕ)
+    → read-list-lts.Need-shared-slice-read-if3 (list-claims t) (read-list-at t) read-list.Post read-list-Inv-loop read-list-μ-loop
 read-list-shared-slice-read-if3 t c = c .before .before .before .if1 .taken
 
-read-list-add-finish : (t : ℕ) → read-list-lts.Need-add-finish (list-claims t) (read-list-at t) read-list.Post read-list-Inv-loop read-list-μ-loop
+read-list-add-finish : (t : ℕ)
+    → read-list-lts.Need-add-finish (list-claims t) (read-list-at t) read-list.Post read-list-Inv-loop read-list-μ-loop
 read-list-add-finish t c = search needs
 
-read-list-finish-requires : (t : ℕ) → read-list-lts.Need-finish-requires (list-claims t) (read-list-at t) read-list.Post read-list-Inv-loop read-list-μ-loop
+read-list-finish-requires : (t : ℕ)
+    → read-list-lts.Need-finish-requires (list-claims t) (read-list-at t) read-list.Post read-list-Inv-loop read-list-μ-loop
 read-list-finish-requires t c κs =
     let z = c .before in
     let ok = sound t (z .before .before) in
@@ -147,12 +153,14 @@ read-list-finish-requires t c κs =
     let space = ok .space in
     omega arith
 
-read-list-same-length-2 : (t : ℕ) → read-list-lts.Need-same-length-2 (list-claims t) (read-list-at t) read-list.Post read-list-Inv-loop read-list-μ-loop
+read-list-same-length-2 : (t : ℕ)
+    → read-list-lts.Need-same-length-2 (list-claims t) (read-list-at t) read-list.Post read-list-Inv-loop read-list-μ-loop
 read-list-same-length-2 t c =
     let q = c .before .before in
     q .finish .kept .1 .0 ∙ wrote-length (q .before .before .before .before .before .before .before .before .loop .inv .stored)
 
-read-list-returns-2 : (t : ℕ) → read-list-lts.Need-returns-2 (list-claims t) (read-list-at t) read-list.Post read-list-Inv-loop read-list-μ-loop
+read-list-returns-2 : (t : ℕ)
+    → read-list-lts.Need-returns-2 (list-claims t) (read-list-at t) read-list.Post read-list-Inv-loop read-list-μ-loop
 unfolding commandOf
 read-list-returns-2 t c =
     let q = c .before .before in
@@ -166,7 +174,8 @@ read-list-returns-2 t c =
       λ list d. absurd (not-outer (clean _ _ _ _ _ (ok .clear)) (z .if3 .taken) list d),
     )
 
-read-list-read-segment-requires : (t : ℕ) → read-list-lts.Need-read-segment-requires (list-claims t) (read-list-at t) read-list.Post read-list-Inv-loop read-list-μ-loop
+read-list-read-segment-requires : (t : ℕ)
+    → read-list-lts.Need-read-segment-requires (list-claims t) (read-list-at t) read-list.Post read-list-Inv-loop read-list-μ-loop
 read-list-read-segment-requires t c κs =
     let o = c .before .before .before in
     let st = o .before .before .before .before .before .before .before in
@@ -174,7 +183,8 @@ read-list-read-segment-requires t c κs =
     let h = o .before .before .if1 .taken in
     (omega (arith, st .pre .0), (sound t o, positive _ (c .before .if3 .left), st .pre .1 .1))
 
-read-list-enum-known-after : (t : ℕ) → read-list-lts.Need-enum-known-after (list-claims t) (read-list-at t) read-list.Post read-list-Inv-loop read-list-μ-loop
+read-list-enum-known-after : (t : ℕ)
+    → read-list-lts.Need-enum-known-after (list-claims t) (read-list-at t) read-list.Post read-list-Inv-loop read-list-μ-loop
 read-list-enum-known-after t c = search needs
 
 -- a segment was read
@@ -187,48 +197,58 @@ segment t c e =
     subst (λ (r : Step). SegmentRead (a .tape .now) (l .ws) (c .read-segment .last .1 .0) (a .name) (a .depth) (l .s) (a .style) r) e
     (c .read-segment .ensures)
 
-read-list-loop-less : (t : ℕ) → read-list-lts.Need-loop-less (list-claims t) (read-list-at t) read-list.Post read-list-Inv-loop read-list-μ-loop
+read-list-loop-less : (t : ℕ)
+    → read-list-lts.Need-loop-less (list-claims t) (read-list-at t) read-list.Post read-list-Inv-loop read-list-μ-loop
 read-list-loop-less t c =
     let q = c .before .before .before .before .before in
     let on = segment t q (c .before .after .given .1) .1 in
     let h = q .before .before .before .before .before .before .if1 .taken in
     omega arith
 
-read-list-loop-again : (t : ℕ) → read-list-lts.Need-loop-again (list-claims t) (read-list-at t) read-list.Post read-list-Inv-loop read-list-μ-loop
+read-list-loop-again : (t : ℕ)
+    → read-list-lts.Need-loop-again (list-claims t) (read-list-at t) read-list.Post read-list-Inv-loop read-list-μ-loop
 read-list-loop-again t c =
     let q = c .before .before .before .before .before in
     went-then _ _ (q .before .before .before .before .before .before .before .before .loop .inv) (segment t q (c .before .after .given .1) .0)
 
-read-list-enum-known-number : (t : ℕ) → read-list-lts.Need-enum-known-number (list-claims t) (read-list-at t) read-list.Post read-list-Inv-loop read-list-μ-loop
+read-list-enum-known-number : (t : ℕ)
+    → read-list-lts.Need-enum-known-number (list-claims t) (read-list-at t) read-list.Post read-list-Inv-loop read-list-μ-loop
 read-list-enum-known-number t c = search needs
 
-read-list-same-length-3 : (t : ℕ) → read-list-lts.Need-same-length-3 (list-claims t) (read-list-at t) read-list.Post read-list-Inv-loop read-list-μ-loop
+read-list-same-length-3 : (t : ℕ)
+    → read-list-lts.Need-same-length-3 (list-claims t) (read-list-at t) read-list.Post read-list-Inv-loop read-list-μ-loop
 read-list-same-length-3 t c =
     let q = c .before .before .before .before .before in
     q .read-segment .kept .1 .0 ∙ wrote-length (q .before .before .before .before .before .before .before .before .loop .inv .stored)
 
-read-list-returns-3 : (t : ℕ) → read-list-lts.Need-returns-3 (list-claims t) (read-list-at t) read-list.Post read-list-Inv-loop read-list-μ-loop
+read-list-returns-3 : (t : ℕ)
+    → read-list-lts.Need-returns-3 (list-claims t) (read-list-at t) read-list.Post read-list-Inv-loop read-list-μ-loop
 read-list-returns-3 t c =
     let q = c .before .before .before .before .before in
     (went-stopped _ _ (q .before .before .before .before .before .before .before .before .loop .inv) (segment t q (c .before .number .given .1) .0), tt)
 
-read-list-is-outer-requires : (t : ℕ) → read-list-lts.Need-is-outer-requires (list-claims t) (read-list-at t) read-list.Post read-list-Inv-loop read-list-μ-loop
+read-list-is-outer-requires : (t : ℕ)
+    → read-list-lts.Need-is-outer-requires (list-claims t) (read-list-at t) read-list.Post read-list-Inv-loop read-list-μ-loop
 read-list-is-outer-requires t c κs = search needs
 
-read-list-same-length-4 : (t : ℕ) → read-list-lts.Need-same-length-4 (list-claims t) (read-list-at t) read-list.Post read-list-Inv-loop read-list-μ-loop
+read-list-same-length-4 : (t : ℕ)
+    → read-list-lts.Need-same-length-4 (list-claims t) (read-list-at t) read-list.Post read-list-Inv-loop read-list-μ-loop
 read-list-same-length-4 t c = wrote-length (c .before .before .before .before .loop .inv .stored)
 
-read-list-returns-4 : (t : ℕ) → read-list-lts.Need-returns-4 (list-claims t) (read-list-at t) read-list.Post read-list-Inv-loop read-list-μ-loop
+read-list-returns-4 : (t : ℕ)
+    → read-list-lts.Need-returns-4 (list-claims t) (read-list-at t) read-list.Post read-list-Inv-loop read-list-μ-loop
 read-list-returns-4 t c =
     let o = c .before .before in
     let a = o .before .before .before .before .before .args in
     let outer = split (not (a .name)) (eqb (a .depth) 0) (sym (c .before .is-outer .ensures) ∙ c .if4 .taken) in
     (went-outer (not-true _ (outer .0)) (eqb-true (a .depth) 0 (outer .1)) (o .before .before .loop .inv), λ list d. o .if1 .left)
 
-read-list-same-length-5 : (t : ℕ) → read-list-lts.Need-same-length-5 (list-claims t) (read-list-at t) read-list.Post read-list-Inv-loop read-list-μ-loop
+read-list-same-length-5 : (t : ℕ)
+    → read-list-lts.Need-same-length-5 (list-claims t) (read-list-at t) read-list.Post read-list-Inv-loop read-list-μ-loop
 read-list-same-length-5 t c = wrote-length (c .before .before .before .before .loop .inv .stored)
 
-read-list-returns-5 : (t : ℕ) → read-list-lts.Need-returns-5 (list-claims t) (read-list-at t) read-list.Post read-list-Inv-loop read-list-μ-loop
+read-list-returns-5 : (t : ℕ)
+    → read-list-lts.Need-returns-5 (list-claims t) (read-list-at t) read-list.Post read-list-Inv-loop read-list-μ-loop
 read-list-returns-5 t c =
     let o = c .before .before in
     let l = o .before .before .loop in
@@ -246,17 +266,20 @@ read-list-returns-5 t c =
 
 -- ---- a segment
 
-read-segment-shared-slice-read-c : (t : ℕ) → read-segment-lts.Need-shared-slice-read-c (segment-claims t) (read-segment-at t) read-segment.Post
+read-segment-shared-slice-read-c : (t : ℕ)
+    → read-segment-lts.Need-shared-slice-read-c (segment-claims t) (read-segment-at t) read-segment.Post
 read-segment-shared-slice-read-c t c = c .before .before .before .pre .1 .0 .inside
 
-read-segment-is-opener-requires : (t : ℕ) → read-segment-lts.Need-is-opener-requires (segment-claims t) (read-segment-at t) read-segment.Post
+read-segment-is-opener-requires : (t : ℕ)
+    → read-segment-lts.Need-is-opener-requires (segment-claims t) (read-segment-at t) read-segment.Post
 read-segment-is-opener-requires t c κs = search needs
 
 -- it opens nothing
 flat : (t : ℕ) (c : read-segment-lts.Then1 (segment-claims t) (read-segment-at t) read-segment.Post) → let a = c .before .before .before .before .before .args in isOpener (byteOf (a .tape .now) (a .st)) ≡ false
 flat t c = sym (c .before .is-opener .ensures) ∙ not-true _ (c .if1 .taken)
 
-read-segment-read-leaf-requires : (t : ℕ) → read-segment-lts.Need-read-leaf-requires (segment-claims t) (read-segment-at t) read-segment.Post
+read-segment-read-leaf-requires : (t : ℕ)
+    → read-segment-lts.Need-read-leaf-requires (segment-claims t) (read-segment-at t) read-segment.Post
 read-segment-read-leaf-requires t c κs =
     let st = c .before .before .before .before .before .before in
     let p = st .pre .1 in
@@ -279,13 +302,15 @@ read-segment-returns t c =
 opener : (t : ℕ) (c : read-segment-lts.Else1 (segment-claims t) (read-segment-at t) read-segment.Post) → let a = c .before .before .before .before .before .args in isOpener (byteOf (a .tape .now) (a .st)) ≡ true
 opener t c = sym (c .before .is-opener .ensures) ∙ not-false _ (c .if1 .left)
 
-in-list : (t : ℕ) (c : read-segment-lts.Else1 (segment-claims t) (read-segment-at t) read-segment.Post) → c .before .before .before .before .before .args .name ≡ false
+in-list : (t : ℕ) (c : read-segment-lts.Else1 (segment-claims t) (read-segment-at t) read-segment.Post)
+    → c .before .before .before .before .before .args .name ≡ false
 in-list t c = let st = c .before .before .before .before .before in opens-in-list (st .args .name) (clean _ _ _ _ _ (st .pre .1 .0 .clear)) (opener t c)
 
 read-segment-add-onto : (t : ℕ) → read-segment-lts.Need-add-onto (segment-claims t) (read-segment-at t) read-segment.Post
 read-segment-add-onto t c = search needs
 
-read-segment-operand-width-requires : (t : ℕ) → read-segment-lts.Need-operand-width-requires (segment-claims t) (read-segment-at t) read-segment.Post
+read-segment-operand-width-requires : (t : ℕ)
+    → read-segment-lts.Need-operand-width-requires (segment-claims t) (read-segment-at t) read-segment.Post
 read-segment-operand-width-requires t c κs = clean _ _ _ _ _ (c .before .before .before .before .before .pre .1 .0 .clear) .known
 
 read-segment-add-onto-2 : (t : ℕ) → read-segment-lts.Need-add-onto-2 (segment-claims t) (read-segment-at t) read-segment.Post
@@ -305,7 +330,8 @@ passed t c cm e q =
     went-command (a .tape .now) (a .depth) (a .name) (a .style) cm (st .pre .1 .0) e
     (rw (q, ← c .before .operand-width .ensures .0) (record { state = c .onto .ensures; bytes = refl }))
 
-on : (t : ℕ) (c : read-segment-lts.After-onto (segment-claims t) (read-segment-at t) read-segment.Post) → c .before .before .before .before .before .before .before .args .st .at < c .onto .result .at
+on : (t : ℕ) (c : read-segment-lts.After-onto (segment-claims t) (read-segment-at t) read-segment.Post)
+    → c .before .before .before .before .before .before .before .args .st .at < c .onto .result .at
 on t c = let at = ap (λ (x : State). x .at) (c .onto .ensures) in omega arith
 
 -- a voice's name
@@ -313,7 +339,8 @@ named : (t : ℕ) (c : read-segment-lts.Then2 (segment-claims t) (read-segment-a
 unfolding commandOf isLetter
 named t c = rw (c .if2 .taken)
 
-read-segment-read-list-requires : (t : ℕ) → read-segment-lts.Need-read-list-requires (segment-claims t) (read-segment-at t) read-segment.Post
+read-segment-read-list-requires : (t : ℕ)
+    → read-segment-lts.Need-read-list-requires (segment-claims t) (read-segment-at t) read-segment.Post
 read-segment-read-list-requires t c κs =
     let v = c .before in
     let st = v .before .before .before .before .before .before .before .before in
@@ -341,7 +368,8 @@ name t c e =
     )
 
 -- the list that it opens is not too deep
-shallow : (t : ℕ) (c : read-segment-lts.Else1 (segment-claims t) (read-segment-at t) read-segment.Post) → c .before .before .before .before .before .args .depth + 1 ≤ deepest
+shallow : (t : ℕ) (c : read-segment-lts.Else1 (segment-claims t) (read-segment-at t) read-segment.Post)
+    → c .before .before .before .before .before .args .depth + 1 ≤ deepest
 shallow t c =
     let p = c .before .before .before .before .before .pre .1 in
     let deep = p .2 in
@@ -352,7 +380,8 @@ read-segment-add-read-list t c =
     let deep = c .before .before .before .before .before .before .before .before .before .before .before .before .before .before .before .before .pre .1 .2 in
     omega arith
 
-read-segment-read-list-requires-2 : (t : ℕ) → read-segment-lts.Need-read-list-requires-2 (segment-claims t) (read-segment-at t) read-segment.Post
+read-segment-read-list-requires-2 : (t : ℕ)
+    → read-segment-lts.Need-read-list-requires-2 (segment-claims t) (read-segment-at t) read-segment.Post
 read-segment-read-list-requires-2 t c κs =
     let q = c .before .before .before .before .before .before in
     let v = q .before .before in
@@ -391,7 +420,8 @@ read-segment-same-length-3 t c = c .before .before .before .before .before .read
 read-segment-returns-3 : (t : ℕ) → read-segment-lts.Need-returns-3 (segment-claims t) (read-segment-at t) read-segment.Post
 read-segment-returns-3 t c = name t (c .before .before .before .before .before) (c .before .number .given .1)
 
-read-segment-style-inside-requires : (t : ℕ) → read-segment-lts.Need-style-inside-requires (segment-claims t) (read-segment-at t) read-segment.Post
+read-segment-style-inside-requires : (t : ℕ)
+    → read-segment-lts.Need-style-inside-requires (segment-claims t) (read-segment-at t) read-segment.Post
 read-segment-style-inside-requires t c κs =
     let st = c .before .before .before .before .before .before .before .before in
     let a = st .args in
@@ -415,7 +445,8 @@ opened t c =
     let o = openerOf (byteOf (a .tape .now) (a .st)) (restOf (a .tape .now) (a .st)) in
     passed t (c .before) (opens o) (open-command _ _ (opener t (c .before .before .before)) (c .if2 .left)) refl
 
-read-segment-read-list-requires-3 : (t : ℕ) → read-segment-lts.Need-read-list-requires-3 (segment-claims t) (read-segment-at t) read-segment.Post
+read-segment-read-list-requires-3 : (t : ℕ)
+    → read-segment-lts.Need-read-list-requires-3 (segment-claims t) (read-segment-at t) read-segment.Post
 read-segment-read-list-requires-3 t c κs =
     let e = c .before .before in
     let st = e .before .before .before .before .before .before .before .before in
