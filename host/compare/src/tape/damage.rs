@@ -3,11 +3,24 @@
 use crate::random::Random;
 use crate::tape::{segments, written};
 
-/// The tape of random segments with one to three changes, or bytes without a plan.
+/// The tape of random segments with one to three changes, or bytes without a plan; now and then
+/// with nearly as many letters before it, or lists around it, as there may be.
 pub fn tape(random: &mut Random) -> Vec<u8> {
-    if random.one_in(4) {
-        return bytes(random);
-    }
+    let mut tape = if random.one_in(4) {
+        bytes(random)
+    } else {
+        changed(random)
+    };
+    let (byte, count) = match random.within(0..=39) {
+        0 => (0x05, random.within(4080..=4097)),
+        1..=3 => (0x0a, random.within(12..=17)),
+        _ => return tape,
+    };
+    tape.splice(0..0, vec![byte; count as usize]);
+    tape
+}
+
+fn changed(random: &mut Random) -> Vec<u8> {
     let segments = segments::random(random);
     let mut tape = written::tape(random, &segments);
     for _ in 0..random.within(1..=3) {

@@ -18,6 +18,7 @@ use check::check;
 use letters::{Letter, Outcome};
 use oxideav_core::Segment;
 use reference::Original;
+use std::collections::BTreeMap;
 
 /// The bytes of a workspace.
 const ROOM: usize = 65_536;
@@ -55,17 +56,25 @@ fn whole(original: &Original, seed: u64, tapes: u64) -> Count {
     count
 }
 
-/// Tapes with something wrong, most of them.
+/// Tapes with something wrong, most of them. Shows how many were due which refusal.
 fn damaged(seed: u64, tapes: u64) -> Count {
     let mut count = Count::new("damaged tapes");
+    let mut admitted = 0;
+    let mut refused = BTreeMap::new();
     for number in 0..tapes {
         let mut random = Random::new(seed ^ APART, number);
         let color = segments::color(&mut random);
         let tape = damage::tape(&mut random);
+        let expected = reading::read(&tape, color);
+        match expected {
+            Outcome::Letters(_) => admitted += 1,
+            Outcome::Refused { number, .. } => *refused.entry(number).or_insert(0) += 1,
+        }
         count.check(
-            check(&tape, color, ROOM, &reading::read(&tape, color))
+            check(&tape, color, ROOM, &expected)
                 .map_err(|found| format!("seed {seed}, damaged tape {number}: {found}")),
         );
     }
+    println!("damaged tapes: {admitted} admitted, refused by number {refused:?}");
     count
 }
