@@ -1,19 +1,19 @@
 -- What a tape comes to is bounded: at most 4,096 letters, or a refusal with a number from 1 to 7 and a place on the tape or at its end.
 use mathlib.Core.Path.{_≡_, _∙_, refl, ap}
-use mathlib.Core.Bool.{Bool, true, false, cond, not, _&&_, _||_}
+use mathlib.Core.Bool.{Bool, true, false}
 use mathlib.Core.List.{List, [], _∷_}
 use Prim.Native.Nat.{ℕ, zero, suc, _+_, _≤_}
 use native.Mathlib.Omega.{arith}
-use lib.Dec.{lit≤, ltb, eqb}
+use lib.Dec.{lit≤}
 use lib.ListN.{length, length-append}
 use Rattle.tape.specs.declared.Style.{Style}
 use Rattle.tape.specs.Outcome.{Outcome, accepted, refused, onAccepted}
-use Rattle.tape.specs.Command.{deepest, mostLetters, width, codePoint, isLetter, isOpener, isScalar, added, faultOf, commandOf}
+use Rattle.tape.specs.Command.{mostLetters, width, added, faultOf, commandOf}
 use Rattle.tape.specs.Runs.{Run, merge, Letter, lettersOf}
 use Rattle.tape.specs.Tape.{Frame, frame, says, next, atEnd, after, unless, read, tapeRuns, tapeLetters}
 use Rattle.tape.specs.Marks.{Last, last, lastAfter, marked}
 use Rattle.tape.proofs.Commands.{says-added}
-use Rattle.tape.proofs.Faults.{clean, from3, from6, from4, from2, from5, from7}
+use Rattle.tape.proofs.Faults.{clean, fault-most}
 use Rattle.tape.proofs.Marked.{marked-merged}
 use Rattle.tape.proofs.Stores.{marked-append}
 
@@ -30,21 +30,6 @@ Bounded end (refused number place) = Own number place end
 abbrev Sane : Last → ℕ → ℕ → Outcome (List Run) → Type 0
 Sane l n end (accepted rs) = n + length (marked l rs) ≤ mostLetters
 Sane l n end (refused number place) = Own number place end
-
-pick : (b : Bool) (k x : ℕ) → k ≤ 7 → x ≤ 7 → cond b k x ≤ 7
-pick true k x h g = h
-pick false k x h g = g
-
-fault-most : (name : Bool) (depth n c : ℕ) (rest : List ℕ) → faultOf name depth n c rest ≤ 7
-unfolding faultOf
-fault-most name depth n c rest =
-    pick (ltb 11 c) 1 (from7 name depth n c rest) (lit≤ tt)
-    (pick (name && not (eqb c 0 || isLetter c)) 7 (from5 name depth n c rest) (lit≤ tt)
-    (pick (isOpener c && eqb depth deepest) 5 (from2 name depth n c rest) (lit≤ tt)
-    (pick (ltb (length rest) (width c)) 2 (from4 name depth n c rest) (lit≤ tt)
-    (pick (isLetter c && not (isScalar (codePoint c rest))) 4 (from6 name depth n c rest) (lit≤ tt)
-    (pick (ltb mostLetters (n + added name c)) 6 (from3 name depth n c rest) (lit≤ tt)
-    (pick (eqb c 0 && (not name && eqb depth 0)) 3 0 (lit≤ tt) (lit≤ tt)))))))
 
 end-sane : (l : Last) (n : ℕ) (around : List Style) (name : Bool) (place : ℕ) → n ≤ mostLetters → Sane l n place (atEnd around name place)
 end-sane l n [] true place h = record { least = lit≤ tt; most = lit≤ tt; on = omega arith }

@@ -5,7 +5,7 @@ use mathlib.Core.List.{List}
 use Prim.Native.Nat.{ℕ, suc, _+_, _≤_, _<_}
 use native.Mathlib.Omega.{arith}
 use borrow.Author.Tests.{leb-true, le-leb, lt-leb, le-ltb, ltb-false, eq-eqb, ne-eqb, eqb-false}
-use lib.Dec.{leb, ltb, eqb}
+use lib.Dec.{lit≤, leb, ltb, eqb}
 use lib.ListN.{length}
 use Rattle.tape.proofs.Styles.{split}
 use Rattle.tape.specs.Command.{deepest, mostLetters, width, codePoint, isLetter, isOpener, isScalar, added, faultOf}
@@ -36,47 +36,59 @@ pub record Clean (name : Bool) (depth n c : ℕ) (rest : List ℕ) : Type 0 wher
   pub plain : (name && not (eqb c 0 || isLetter c)) ≡ false
   pub shallow : (isOpener c && eqb depth deepest) ≡ false
   pub whole : width c ≤ length rest
+  pub scalar : (isLetter c && not (isScalar (codePoint c rest))) ≡ false
   pub few : n + added name c ≤ mostLetters
   pub nested : (eqb c 0 && (not name && eqb depth 0)) ≡ false
 
-cond-zero : (b : Bool) (k : ℕ) {x : ℕ} → cond b (suc k) x ≡ 0 → (b ≡ false) × (x ≡ 0)
-cond-zero true k e = absurd (omega arith)
-cond-zero false k e = (refl, e)
+cases : (P : ℕ → Type 0) (b : Bool) (x y : ℕ) → P x → (b ≡ false → P y) → P (cond b x y)
+cases P true x y p q = p
+cases P false x y p q = q refl
 
-pub clean : (name : Bool) (depth n c : ℕ) (rest : List ℕ) → faultOf name depth n c rest ≡ 0 → Clean name depth n c rest
-unfolding faultOf
-clean name depth n c rest e =
-    let a = cond-zero (ltb 11 c) 0 {x = from7 name depth n c rest} e in
-    let b = cond-zero (name && not (eqb c 0 || isLetter c)) 6 {x = from5 name depth n c rest} (a .1) in
-    let d = cond-zero (isOpener c && eqb depth deepest) 4 {x = from2 name depth n c rest} (b .1) in
-    let w = cond-zero (ltb (length rest) (width c)) 1 {x = from4 name depth n c rest} (d .1) in
-    let v = cond-zero (isLetter c && not (isScalar (codePoint c rest))) 3 {x = from6 name depth n c rest} (w .1) in
-    let l = cond-zero (ltb mostLetters (n + added name c)) 5 {x = from3 name depth n c rest} (v .1) in
-    record {
-      known = omega (arith, ltb-false 11 c (a .0));
-      plain = b .0;
-      shallow = d .0;
-      whole = ltb-false _ _ (w .0);
-      few = ltb-false _ _ (l .0);
-      nested = cond-zero (eqb c 0 && (not name && eqb depth 0)) 2 (l .1) .0;
-    }
+module _ (name : Bool) (depth n c : ℕ) (rest : List ℕ) where
+  -- what holds of each number that a fault may have, and of 0 where there is none, holds of the table
+  pub faults : (P : ℕ → Type 0) → P 1 → P 7 → P 5 → P 2 → P 4 → P 6 → P 3 → (Clean name depth n c rest → P 0) → P (faultOf name depth n c rest)
+  unfolding faultOf
+  faults P p1 p7 p5 p2 p4 p6 p3 p0 =
+      cases P _ 1 (from7 name depth n c rest) p1 λ known.
+      cases P _ 7 (from5 name depth n c rest) p7 λ plain.
+      cases P _ 5 (from2 name depth n c rest) p5 λ shallow.
+      cases P _ 2 (from4 name depth n c rest) p2 λ whole.
+      cases P _ 4 (from6 name depth n c rest) p4 λ scalar.
+      cases P _ 6 (from3 name depth n c rest) p6 λ few.
+      cases P _ 3 0 p3 λ nested.
+      p0
+      (record {
+        known = omega (arith, ltb-false 11 c known);
+        plain = plain;
+        shallow = shallow;
+        whole = ltb-false (length rest) (width c) whole;
+        scalar = scalar;
+        few = ltb-false mostLetters (n + added name c) few;
+        nested = nested;
+      })
 
--- and the other way round
-pub no-fault : (name : Bool) (depth n c : ℕ) (rest : List ℕ) → Clean name depth n c rest
-    → (isLetter c && not (isScalar (codePoint c rest))) ≡ false
-    → faultOf name depth n c rest ≡ 0
-unfolding faultOf
-no-fault name depth n c rest ok scalar =
-    let known : c ≤ 11 = omega arith in
-    rw (
-      le-ltb 11 c known,
-      ok .plain,
-      ok .shallow,
-      le-ltb (length rest) (width c) (ok .whole),
-      scalar,
-      le-ltb mostLetters (n + added name c) (ok .few),
-      ok .nested,
-    )
+  pub fault-most : faultOf name depth n c rest ≤ 7
+  fault-most = faults (λ k. k ≤ 7) (lit≤ tt) (lit≤ tt) (lit≤ tt) (lit≤ tt) (lit≤ tt) (lit≤ tt) (lit≤ tt) (λ ok. lit≤ tt)
+
+  pub clean : faultOf name depth n c rest ≡ 0 → Clean name depth n c rest
+  clean =
+      let other : (k : ℕ) → suc k ≡ 0 → Clean name depth n c rest = λ k e. absurd (omega arith) in
+      faults (λ k. k ≡ 0 → Clean name depth n c rest) (other 0) (other 6) (other 4) (other 1) (other 3) (other 5) (other 2) (λ ok e. ok)
+
+  -- and the other way round
+  pub no-fault : Clean name depth n c rest → faultOf name depth n c rest ≡ 0
+  unfolding faultOf
+  no-fault ok =
+      let known : c ≤ 11 = omega arith in
+      rw (
+        le-ltb 11 c known,
+        ok .plain,
+        ok .shallow,
+        le-ltb (length rest) (width c) (ok .whole),
+        ok .scalar,
+        le-ltb mostLetters (n + added name c) (ok .few),
+        ok .nested,
+      )
 
 -- a list that a 00 ends is not the outer one
 pub not-outer : {name : Bool} {depth n c : ℕ} {rest : List ℕ} → Clean name depth n c rest → c ≡ 0 → name ≡ false → depth ≡ 0 → ⊥

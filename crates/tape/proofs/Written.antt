@@ -94,9 +94,9 @@ module _ (s : Style) (around : List Style) (name : Bool) (n : ℕ) where
         goes = λ place rest.
             let l = length-append operands rest in
             let ok : Clean name (length around) n c (operands ++ rest) =
-            record { known = known; plain = fits; shallow = shallow; whole = omega arith; few = omega arith; nested = nested } in (
+            record { known = known; plain = fits; shallow = shallow; whole = omega arith; scalar = scalar rest; few = omega arith; nested = nested } in (
               place + 1 + width c,
-              read-command s around name place n c (operands ++ rest) cm (no-fault _ _ _ _ _ ok (scalar rest)) (is rest)
+              read-command s around name place n c (operands ++ rest) cm (no-fault _ _ _ _ _ ok) (is rest)
                   ∙ ap₂ (λ (j : ℕ) (l : List ℕ). after (says cm s name) (read 0 (next cm s around name) (place + 1 + width c) j l)) k (drop-at operands rest (width c) e),
             );
       }

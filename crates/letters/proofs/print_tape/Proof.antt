@@ -1,4 +1,4 @@
-use mathlib.Core.Path.{_≡_, subst}
+use mathlib.Core.Path.{subst}
 use native.Mathlib.Omega.{arith}
 use Rattle.tape.specs.declared.Answer.{Answer}
 use Rattle.tape.specs.Reading.{TapeRead}
