@@ -45,7 +45,8 @@ after-sane l n m end rs (accepted qs) e h =
 after-sane l n m end rs (refused number place) e h = h
 
 -- one command, before what follows it
-command-sane : (c : ℕ) (rest : List ℕ) (f : Frame) (place n : ℕ) (l : Last) (o : Outcome (List Run)) → let rs = says (commandOf c rest) (f .style) (f .name) in
+command-sane : (c : ℕ) (rest : List ℕ) (f : Frame) (place n : ℕ) (l : Last) (o : Outcome (List Run)) →
+    let rs = says (commandOf c rest) (f .style) (f .name) in
     (n + added (f .name) c ≤ mostLetters → Sane (lastAfter l rs) (n + added (f .name) c) (place + 1 + length rest) o)
     → Sane l n (place + suc (length rest)) (unless (faultOf (f .name) (length (f .around)) n c rest) place (after rs o))
 command-sane c rest f place n l o ih = go (faultOf (f .name) (length (f .around)) n c rest) refl

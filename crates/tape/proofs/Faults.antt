@@ -49,7 +49,7 @@ module _ (name : Bool) (depth n c : ℕ) (rest : List ℕ) where
   pub faults : (P : ℕ → Type 0) → P 1 → P 7 → P 5 → P 2 → P 4 → P 6 → P 3 → (Clean name depth n c rest → P 0) → P (faultOf name depth n c rest)
   unfolding faultOf
   faults P p1 p7 p5 p2 p4 p6 p3 p0 =
-      cases P _ 1 (from7 name depth n c rest) p1 λ known.
+      cases P (ltb 11 c) 1 (from7 name depth n c rest) p1 λ known.
       cases P _ 7 (from5 name depth n c rest) p7 λ plain.
       cases P _ 5 (from2 name depth n c rest) p5 λ shallow.
       cases P _ 2 (from4 name depth n c rest) p2 λ whole.

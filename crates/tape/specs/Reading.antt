@@ -1,6 +1,6 @@
 -- Promises: what the reader's functions ask of and tell each other. No reader of the deposit needs this file.
 use mathlib.Core.Path.{_≡_}
-use mathlib.Core.Bool.{Bool, false}
+use mathlib.Core.Bool.{Bool, false, not, _&&_}
 use mathlib.Core.List.{List}
 use Prim.Native.Nat.{ℕ, _+_, _*_, _≤_, _<_}
 use lib.ListN.{length, getD, drop}
@@ -10,7 +10,7 @@ use Rattle.tape.specs.declared.Step.{Step}
 use Rattle.tape.specs.declared.Step.the-variants.{Done, Refused}
 use Rattle.tape.specs.declared.Answer.{Answer}
 use Rattle.tape.specs.Outcome.{Outcome, accepted, refused}
-use Rattle.tape.specs.Command.{mostLetters, width, isOpener, added, faultOf, Command, ends, commandOf}
+use Rattle.tape.specs.Command.{mostLetters, width, codePoint, isLetter, isOpener, isScalar, added, faultOf, Command, ends, commandOf}
 use Rattle.tape.specs.Runs.{Run, Letter}
 use Rattle.tape.specs.Tape.{Frame, frame, says, next, after, read, tapeRead}
 use Rattle.tape.specs.Marks.{Last, last, lastAfter, marked}
@@ -48,6 +48,10 @@ byteAt tape at = getD tape at 0
 
 abbrev pub restAt : List ℕ → ℕ → List ℕ
 restAt tape at = drop (at + 1) tape
+
+-- whether they are a letter without a Unicode scalar value
+abbrev pub noScalar : List ℕ → ℕ → Bool
+noScalar tape at = isLetter (byteAt tape at) && not (isScalar (codePoint (byteAt tape at) (restAt tape at)))
 
 -- those at a state's place, and what they stand for
 abbrev pub byteOf : List ℕ → State → ℕ

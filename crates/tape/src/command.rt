@@ -6,7 +6,7 @@ ghost use lib.ListN.{length};
 ghost use lib.Dec.{eqb};
 ghost use Rattle.tape.specs.Style.{inside};
 ghost use Rattle.tape.specs.Command.{deepest, mostLetters, width, codePoint, isLetter, isOpener, isScalar, added, faultOf, openerOf};
-ghost use Rattle.tape.specs.Reading.{byteAt, restAt};
+ghost use Rattle.tape.specs.Reading.{byteAt, restAt, noScalar};
 use crate::Style;
 
 const DEEPEST: usize = 16;
@@ -105,8 +105,8 @@ fn is_too_deep(c: u8, depth: usize) -> bool
 
 // A letter command with no Unicode scalar value.
 fn is_no_scalar(tape: &[u8], at: usize) -> bool
-    requires { ⌜ (byteAt (now tape) at < 12) × (at + width (byteAt (now tape) at) < length (now tape)) ⌝ }
-    ensures { λ r. ⌜ r ≡ (isLetter (byteAt (now (tape .entry)) at) && not (isScalar (codePoint (byteAt (now (tape .entry)) at) (restAt (now (tape .entry)) at)))) ⌝ }
+    requires { ⌜ at + width (byteAt (now tape) at) < length (now tape) ⌝ }
+    ensures { λ r. ⌜ r ≡ noScalar (now (tape .entry)) at ⌝ }
 {
     if is_letter(tape[at]) {
         return !is_scalar(code_point(tape, at));

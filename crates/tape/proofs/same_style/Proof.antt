@@ -22,7 +22,9 @@ returns-2 c =
     rw (e, f)
 
 -- the marks are the same
-marks : (c : tie.Else2) → let a = c .before .before .before .before .before .before .args in (Bool·beq (a .a .bold) (a .b .bold) ≡ true) × (Bool·beq (a .a .italic) (a .b .italic) ≡ true)
+marks : (c : tie.Else2) →
+    let a = c .before .before .before .before .before .before .args in
+    (Bool·beq (a .a .bold) (a .b .bold) ≡ true) × (Bool·beq (a .a .italic) (a .b .italic) ≡ true)
 marks c = (not-false _ (c .before .before .before .if1 .left), not-false _ (c .if2 .left))
 
 returns-3 : tie.Need-returns-3

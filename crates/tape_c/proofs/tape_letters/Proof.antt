@@ -9,7 +9,8 @@ use Rattle.tape_c.proofs.tape_letters.Statement.{statement}
 use Rattle.tape_c.proofs.tape_letters.Tie as tie
 
 -- the tape was read
-read : (c : tie.After-read-tape) {r : Answer} → c .read-tape .result ≡ r → let a = c .before .before .before .before .before .before .args in
+read : (c : tie.After-read-tape) {r : Answer} → c .read-tape .result ≡ r →
+    let a = c .before .before .before .before .before .before .args in
     TapeRead (a .tape .now) (a .workspace .now) (c .read-tape .last .1 .0) (defaultWith (a .color .now)) r
 read c e =
     let a = c .before .before .before .before .before .before .args in

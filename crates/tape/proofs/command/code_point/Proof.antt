@@ -10,7 +10,9 @@ use Rattle.tape.proofs.command.code_point.Statement.{statement}
 use Rattle.tape.proofs.command.code_point.Tie as tie
 
 -- the command is 02, 03 or 04, and whole
-reach : (c : tie.Start) → let k = byteAt (c .args .tape .now) (c .args .at) in (2 ≤ k) × (k ≤ 4) × (c .args .at + k ≤ length (c .args .tape .now))
+reach : (c : tie.Start) →
+    let k = byteAt (c .args .tape .now) (c .args .at) in
+    (2 ≤ k) × (k ≤ 4) × (c .args .at + k ≤ length (c .args .tape .now))
 reach c =
     let r = letter-range _ (c .pre .0) in
     let w = letter-width _ (r .0) (r .1) in
@@ -20,7 +22,9 @@ reach c =
 last : (k : ℕ) → 2 ≤ k → k ≤ 4 → (k ≡ 2 → ⊥) → (k ≡ 3 → ⊥) → k ≡ 4
 last k h l two three = omega (arith, two, three)
 
-four : (c : tie.Else2) → let s = c .before .before .before .before .before .before .before .before in byteAt (s .args .tape .now) (s .args .at) ≡ 4
+four : (c : tie.Else2) →
+    let s = c .before .before .before .before .before .before .before .before in
+    byteAt (s .args .tape .now) (s .args .at) ≡ 4
 four c =
     let e = c .before .before .before in
     let r = reach (e .before .before .before .before .before) in

@@ -11,9 +11,7 @@ is-letter-requires : tie.Need-is-letter-requires
 is-letter-requires c κs = search needs
 
 code-point-requires : tie.Need-code-point-requires
-code-point-requires c κs =
-    let p = c .before .before .before .before .pre in
-    (sym (c .before .is-letter .ensures) ∙ c .if1 .taken, p .1)
+code-point-requires c κs = (sym (c .before .is-letter .ensures) ∙ c .if1 .taken, c .before .before .before .before .pre)
 
 is-scalar-requires : tie.Need-is-scalar-requires
 is-scalar-requires c κs = search needs

@@ -6,7 +6,7 @@ use native.Mathlib.Nat.{add-zero}
 use native.Mathlib.Omega.{arith}
 use borrow.Author.Needs.{needs}
 use borrow.Author.Tests.{eqb-true, not-true, not-false}
-use borrow.Fn.Kinds.{In}
+use borrow.Fn.Kinds.{In, Out}
 use borrow.Fn.PlainCycle.{Measures, is, falls, and}
 use lib.Dec.{eqb}
 use lib.ListN.{length, length-drop}
@@ -24,10 +24,10 @@ use Rattle.tape.proofs.Styles.{split}
 use Rattle.tape.proofs.Went.{wrote-length, went-none, went-then, went-stopped, stopped-fault, went-command, then-reads, inner-reads, went-outer, onward}
 use Rattle.tape.proofs.reader.read_list.Reads as read-list
 use Rattle.tape.proofs.reader.read_list.Kinds as read-list-kinds
-use Rattle.tape.proofs.reader.+read_list+read_segment.Lts-read_list as read-list-lts
+use Rattle.tape.proofs.reader.+read_list+read_segment.Lts-read_list as list
 use Rattle.tape.proofs.reader.read_segment.Reads as read-segment
 use Rattle.tape.proofs.reader.read_segment.Kinds as read-segment-kinds
-use Rattle.tape.proofs.reader.+read_list+read_segment.Lts-read_segment as read-segment-lts
+use Rattle.tape.proofs.reader.+read_list+read_segment.Lts-read_segment as segment
 use Rattle.tape.proofs.State.finish.Reads as finish-reads
 use Rattle.tape.proofs.State.onto.Reads as onto-reads
 use Rattle.tape.proofs.command.fault.Reads as fault-reads
@@ -64,7 +64,7 @@ read-segment-below t =
     (falls 2 read-segment-kinds.ps _<_ μ-read-segment t)
     read-segment.Pre
 
-abbrev list-claims : ℕ → read-list-lts.Claims
+abbrev list-claims : ℕ → list.Claims
 list-claims t = (
   fault-reads.Asked,
   fault-reads.Learnt,
@@ -76,7 +76,7 @@ list-claims t = (
   is-outer-reads.Learnt,
 )
 
-abbrev segment-claims : ℕ → read-segment-lts.Claims
+abbrev segment-claims : ℕ → segment.Claims
 segment-claims t = (
   is-opener-reads.Asked,
   is-opener-reads.Learnt,
@@ -92,30 +92,35 @@ segment-claims t = (
   style-inside-reads.Learnt,
 )
 
--- ---- a list
-
-abbrev read-list-Inv-loop : read-list-lts.InvT-loop
+abbrev read-list-Inv-loop : list.InvT-loop
 read-list-Inv-loop tape ws₀ style name depth s₀ ws s = Went tape ws₀ ws depth (within style name) (within style name) s₀ s
 
-abbrev read-list-μ-loop : read-list-lts.MeasureT-loop
+abbrev read-list-μ-loop : list.MeasureT-loop
 read-list-μ-loop tape ws₀ style name depth s₀ ws s = length tape - s .at
 
-read-list-loop-holds : (t : ℕ)
-    → read-list-lts.Need-loop-holds (list-claims t) (read-list-at t) read-list.Post read-list-Inv-loop read-list-μ-loop
+-- a need or a place of each
+abbrev of-list : (list.Claims → In 2 read-list-kinds.ps → Out 2 read-list-kinds.ps read-list-kinds.r → list.InvT-loop → list.MeasureT-loop → Type 0)
+    → ℕ → Type 0
+of-list N t = N (list-claims t) (read-list-at t) read-list.Post read-list-Inv-loop read-list-μ-loop
+
+abbrev of-segment : (segment.Claims → In 2 read-segment-kinds.ps → Out 2 read-segment-kinds.ps read-segment-kinds.r → Type 0) → ℕ → Type 0
+of-segment N t = N (segment-claims t) (read-segment-at t) read-segment.Post
+
+-- ---- a list
+
+read-list-loop-holds : (t : ℕ) → of-list list.Need-loop-holds t
 read-list-loop-holds t c =
     let st = c .before .before in
     let a = st .args in
     went-none (a .tape .now) (a .depth) (within (a .style) (a .name)) (a .ws .now) (a .st) (st .pre .1 .0 .on) (st .pre .1 .0 .few)
 
-read-list-fault-requires : (t : ℕ)
-    → read-list-lts.Need-fault-requires (list-claims t) (read-list-at t) read-list.Post read-list-Inv-loop read-list-μ-loop
+read-list-fault-requires : (t : ℕ) → of-list list.Need-fault-requires t
 read-list-fault-requires t c κs = (c .if1 .taken, c .before .before .loop .inv .few)
 
-read-list-same-length : (t : ℕ)
-    → read-list-lts.Need-same-length (list-claims t) (read-list-at t) read-list.Post read-list-Inv-loop read-list-μ-loop
+read-list-same-length : (t : ℕ) → of-list list.Need-same-length t
 read-list-same-length t c = wrote-length (c .before .before .before .before .loop .inv .stored)
 
-read-list-returns : (t : ℕ) → read-list-lts.Need-returns (list-claims t) (read-list-at t) read-list.Post read-list-Inv-loop read-list-μ-loop
+read-list-returns : (t : ℕ) → of-list list.Need-returns t
 read-list-returns t c =
     let f = c .before .before in
     let l = f .before .before .loop in
@@ -126,7 +131,7 @@ read-list-returns t c =
     )
 
 -- a command without a fault
-sound : (t : ℕ) (c : read-list-lts.Else2 (list-claims t) (read-list-at t) read-list.Post read-list-Inv-loop read-list-μ-loop) → let l = c .before .before .before .before .loop in
+sound : (t : ℕ) (c : of-list list.Else2 t) → let l = c .before .before .before .before .loop in
     let a = c .before .before .before .before .before .before .before .args in
     Sound (a .tape .now) (l .ws) (l .s) (a .name) (a .depth)
 sound t c =
@@ -135,16 +140,13 @@ sound t c =
     let same = wrote-length (l .inv .stored) in
     record { inside = c .before .before .if1 .taken; clear = sym (c .before .fault .ensures) ∙ c .if2 .left; space = omega arith }
 
-read-list-shared-slice-read-if3 : (t : ℕ)
-    → read-list-lts.Need-shared-slice-read-if3 (list-claims t) (read-list-at t) read-list.Post read-list-Inv-loop read-list-μ-loop
+read-list-shared-slice-read-if3 : (t : ℕ) → of-list list.Need-shared-slice-read-if3 t
 read-list-shared-slice-read-if3 t c = c .before .before .before .if1 .taken
 
-read-list-add-finish : (t : ℕ)
-    → read-list-lts.Need-add-finish (list-claims t) (read-list-at t) read-list.Post read-list-Inv-loop read-list-μ-loop
+read-list-add-finish : (t : ℕ) → of-list list.Need-add-finish t
 read-list-add-finish t c = search needs
 
-read-list-finish-requires : (t : ℕ)
-    → read-list-lts.Need-finish-requires (list-claims t) (read-list-at t) read-list.Post read-list-Inv-loop read-list-μ-loop
+read-list-finish-requires : (t : ℕ) → of-list list.Need-finish-requires t
 read-list-finish-requires t c κs =
     let z = c .before in
     let ok = sound t (z .before .before) in
@@ -153,14 +155,12 @@ read-list-finish-requires t c κs =
     let space = ok .space in
     omega arith
 
-read-list-same-length-2 : (t : ℕ)
-    → read-list-lts.Need-same-length-2 (list-claims t) (read-list-at t) read-list.Post read-list-Inv-loop read-list-μ-loop
+read-list-same-length-2 : (t : ℕ) → of-list list.Need-same-length-2 t
 read-list-same-length-2 t c =
     let q = c .before .before in
     q .finish .kept .1 .0 ∙ wrote-length (q .before .before .before .before .before .before .before .before .loop .inv .stored)
 
-read-list-returns-2 : (t : ℕ)
-    → read-list-lts.Need-returns-2 (list-claims t) (read-list-at t) read-list.Post read-list-Inv-loop read-list-μ-loop
+read-list-returns-2 : (t : ℕ) → of-list list.Need-returns-2 t
 unfolding commandOf
 read-list-returns-2 t c =
     let q = c .before .before in
@@ -174,8 +174,7 @@ read-list-returns-2 t c =
       λ list d. absurd (not-outer (clean _ _ _ _ _ (ok .clear)) (z .if3 .taken) list d),
     )
 
-read-list-read-segment-requires : (t : ℕ)
-    → read-list-lts.Need-read-segment-requires (list-claims t) (read-list-at t) read-list.Post read-list-Inv-loop read-list-μ-loop
+read-list-read-segment-requires : (t : ℕ) → of-list list.Need-read-segment-requires t
 read-list-read-segment-requires t c κs =
     let o = c .before .before .before in
     let st = o .before .before .before .before .before .before .before in
@@ -183,72 +182,62 @@ read-list-read-segment-requires t c κs =
     let h = o .before .before .if1 .taken in
     (omega (arith, st .pre .0), (sound t o, positive _ (c .before .if3 .left), st .pre .1 .1))
 
-read-list-enum-known-after : (t : ℕ)
-    → read-list-lts.Need-enum-known-after (list-claims t) (read-list-at t) read-list.Post read-list-Inv-loop read-list-μ-loop
+read-list-enum-known-after : (t : ℕ) → of-list list.Need-enum-known-after t
 read-list-enum-known-after t c = search needs
 
 -- a segment was read
-segment : (t : ℕ) (c : read-list-lts.After-read-segment (list-claims t) (read-list-at t) read-list.Post read-list-Inv-loop read-list-μ-loop) {r : Step} → c .read-segment .result ≡ r → let l = c .before .before .before .before .before .before .before .before .loop in
+read-one : (t : ℕ) (c : of-list list.After-read-segment t) {r : Step} → c .read-segment .result ≡ r →
+    let l = c .before .before .before .before .before .before .before .before .loop in
     let a = c .before .before .before .before .before .before .before .before .before .before .before .args in
     SegmentRead (a .tape .now) (l .ws) (c .read-segment .last .1 .0) (a .name) (a .depth) (l .s) (a .style) r
-segment t c e =
+read-one t c e =
     let l = c .before .before .before .before .before .before .before .before .loop in
     let a = c .before .before .before .before .before .before .before .before .before .before .before .args in
     subst (λ (r : Step). SegmentRead (a .tape .now) (l .ws) (c .read-segment .last .1 .0) (a .name) (a .depth) (l .s) (a .style) r) e
     (c .read-segment .ensures)
 
-read-list-loop-less : (t : ℕ)
-    → read-list-lts.Need-loop-less (list-claims t) (read-list-at t) read-list.Post read-list-Inv-loop read-list-μ-loop
+read-list-loop-less : (t : ℕ) → of-list list.Need-loop-less t
 read-list-loop-less t c =
     let q = c .before .before .before .before .before in
-    let on = segment t q (c .before .after .given .1) .1 in
+    let on = read-one t q (c .before .after .given .1) .1 in
     let h = q .before .before .before .before .before .before .if1 .taken in
     omega arith
 
-read-list-loop-again : (t : ℕ)
-    → read-list-lts.Need-loop-again (list-claims t) (read-list-at t) read-list.Post read-list-Inv-loop read-list-μ-loop
+read-list-loop-again : (t : ℕ) → of-list list.Need-loop-again t
 read-list-loop-again t c =
     let q = c .before .before .before .before .before in
-    went-then _ _ (q .before .before .before .before .before .before .before .before .loop .inv) (segment t q (c .before .after .given .1) .0)
+    went-then _ _ (q .before .before .before .before .before .before .before .before .loop .inv) (read-one t q (c .before .after .given .1) .0)
 
-read-list-enum-known-number : (t : ℕ)
-    → read-list-lts.Need-enum-known-number (list-claims t) (read-list-at t) read-list.Post read-list-Inv-loop read-list-μ-loop
+read-list-enum-known-number : (t : ℕ) → of-list list.Need-enum-known-number t
 read-list-enum-known-number t c = search needs
 
-read-list-same-length-3 : (t : ℕ)
-    → read-list-lts.Need-same-length-3 (list-claims t) (read-list-at t) read-list.Post read-list-Inv-loop read-list-μ-loop
+read-list-same-length-3 : (t : ℕ) → of-list list.Need-same-length-3 t
 read-list-same-length-3 t c =
     let q = c .before .before .before .before .before in
     q .read-segment .kept .1 .0 ∙ wrote-length (q .before .before .before .before .before .before .before .before .loop .inv .stored)
 
-read-list-returns-3 : (t : ℕ)
-    → read-list-lts.Need-returns-3 (list-claims t) (read-list-at t) read-list.Post read-list-Inv-loop read-list-μ-loop
+read-list-returns-3 : (t : ℕ) → of-list list.Need-returns-3 t
 read-list-returns-3 t c =
     let q = c .before .before .before .before .before in
-    (went-stopped _ _ (q .before .before .before .before .before .before .before .before .loop .inv) (segment t q (c .before .number .given .1) .0), tt)
+    (went-stopped _ _ (q .before .before .before .before .before .before .before .before .loop .inv) (read-one t q (c .before .number .given .1) .0), tt)
 
-read-list-is-outer-requires : (t : ℕ)
-    → read-list-lts.Need-is-outer-requires (list-claims t) (read-list-at t) read-list.Post read-list-Inv-loop read-list-μ-loop
+read-list-is-outer-requires : (t : ℕ) → of-list list.Need-is-outer-requires t
 read-list-is-outer-requires t c κs = search needs
 
-read-list-same-length-4 : (t : ℕ)
-    → read-list-lts.Need-same-length-4 (list-claims t) (read-list-at t) read-list.Post read-list-Inv-loop read-list-μ-loop
+read-list-same-length-4 : (t : ℕ) → of-list list.Need-same-length-4 t
 read-list-same-length-4 t c = wrote-length (c .before .before .before .before .loop .inv .stored)
 
-read-list-returns-4 : (t : ℕ)
-    → read-list-lts.Need-returns-4 (list-claims t) (read-list-at t) read-list.Post read-list-Inv-loop read-list-μ-loop
+read-list-returns-4 : (t : ℕ) → of-list list.Need-returns-4 t
 read-list-returns-4 t c =
     let o = c .before .before in
     let a = o .before .before .before .before .before .args in
     let outer = split (not (a .name)) (eqb (a .depth) 0) (sym (c .before .is-outer .ensures) ∙ c .if4 .taken) in
     (went-outer (not-true _ (outer .0)) (eqb-true (a .depth) 0 (outer .1)) (o .before .before .loop .inv), λ list d. o .if1 .left)
 
-read-list-same-length-5 : (t : ℕ)
-    → read-list-lts.Need-same-length-5 (list-claims t) (read-list-at t) read-list.Post read-list-Inv-loop read-list-μ-loop
+read-list-same-length-5 : (t : ℕ) → of-list list.Need-same-length-5 t
 read-list-same-length-5 t c = wrote-length (c .before .before .before .before .loop .inv .stored)
 
-read-list-returns-5 : (t : ℕ)
-    → read-list-lts.Need-returns-5 (list-claims t) (read-list-at t) read-list.Post read-list-Inv-loop read-list-μ-loop
+read-list-returns-5 : (t : ℕ) → of-list list.Need-returns-5 t
 read-list-returns-5 t c =
     let o = c .before .before in
     let l = o .before .before .loop in
@@ -266,29 +255,28 @@ read-list-returns-5 t c =
 
 -- ---- a segment
 
-read-segment-shared-slice-read-c : (t : ℕ)
-    → read-segment-lts.Need-shared-slice-read-c (segment-claims t) (read-segment-at t) read-segment.Post
+read-segment-shared-slice-read-c : (t : ℕ) → of-segment segment.Need-shared-slice-read-c t
 read-segment-shared-slice-read-c t c = c .before .before .before .pre .1 .0 .inside
 
-read-segment-is-opener-requires : (t : ℕ)
-    → read-segment-lts.Need-is-opener-requires (segment-claims t) (read-segment-at t) read-segment.Post
+read-segment-is-opener-requires : (t : ℕ) → of-segment segment.Need-is-opener-requires t
 read-segment-is-opener-requires t c κs = search needs
 
 -- it opens nothing
-flat : (t : ℕ) (c : read-segment-lts.Then1 (segment-claims t) (read-segment-at t) read-segment.Post) → let a = c .before .before .before .before .before .args in isOpener (byteOf (a .tape .now) (a .st)) ≡ false
+flat : (t : ℕ) (c : of-segment segment.Then1 t) →
+    let a = c .before .before .before .before .before .args in
+    isOpener (byteOf (a .tape .now) (a .st)) ≡ false
 flat t c = sym (c .before .is-opener .ensures) ∙ not-true _ (c .if1 .taken)
 
-read-segment-read-leaf-requires : (t : ℕ)
-    → read-segment-lts.Need-read-leaf-requires (segment-claims t) (read-segment-at t) read-segment.Post
+read-segment-read-leaf-requires : (t : ℕ) → of-segment segment.Need-read-leaf-requires t
 read-segment-read-leaf-requires t c κs =
     let st = c .before .before .before .before .before .before in
     let p = st .pre .1 in
     leaf _ _ (st .args .name) _ _ (p .0) (p .1) (flat t (c .before))
 
-read-segment-same-length : (t : ℕ) → read-segment-lts.Need-same-length (segment-claims t) (read-segment-at t) read-segment.Post
+read-segment-same-length : (t : ℕ) → of-segment segment.Need-same-length t
 read-segment-same-length t c = c .before .before .read-leaf .kept .1 .0
 
-read-segment-returns : (t : ℕ) → read-segment-lts.Need-returns (segment-claims t) (read-segment-at t) read-segment.Post
+read-segment-returns : (t : ℕ) → of-segment segment.Need-returns t
 read-segment-returns t c =
     let q = c .before .before in
     let h = q .before .before in
@@ -299,28 +287,31 @@ read-segment-returns t c =
     (went-leaf (a .tape .now) (a .depth) (a .name) _ _ (p .0) (p .1) (flat t h) (a .style) _ _ (q .read-leaf .ensures), omega arith)
 
 -- it opens a list, and stands in one
-opener : (t : ℕ) (c : read-segment-lts.Else1 (segment-claims t) (read-segment-at t) read-segment.Post) → let a = c .before .before .before .before .before .args in isOpener (byteOf (a .tape .now) (a .st)) ≡ true
+opener : (t : ℕ) (c : of-segment segment.Else1 t) →
+    let a = c .before .before .before .before .before .args in
+    isOpener (byteOf (a .tape .now) (a .st)) ≡ true
 opener t c = sym (c .before .is-opener .ensures) ∙ not-false _ (c .if1 .left)
 
-in-list : (t : ℕ) (c : read-segment-lts.Else1 (segment-claims t) (read-segment-at t) read-segment.Post)
-    → c .before .before .before .before .before .args .name ≡ false
-in-list t c = let st = c .before .before .before .before .before in opens-in-list (st .args .name) (clean _ _ _ _ _ (st .pre .1 .0 .clear)) (opener t c)
+in-list : (t : ℕ) (c : of-segment segment.Else1 t) → c .before .before .before .before .before .args .name ≡ false
+in-list t c =
+    let st = c .before .before .before .before .before in
+    opens-in-list (st .args .name) (clean _ _ _ _ _ (st .pre .1 .0 .clear)) (opener t c)
 
-read-segment-add-onto : (t : ℕ) → read-segment-lts.Need-add-onto (segment-claims t) (read-segment-at t) read-segment.Post
+read-segment-add-onto : (t : ℕ) → of-segment segment.Need-add-onto t
 read-segment-add-onto t c = search needs
 
-read-segment-operand-width-requires : (t : ℕ)
-    → read-segment-lts.Need-operand-width-requires (segment-claims t) (read-segment-at t) read-segment.Post
+read-segment-operand-width-requires : (t : ℕ) → of-segment segment.Need-operand-width-requires t
 read-segment-operand-width-requires t c κs = clean _ _ _ _ _ (c .before .before .before .before .before .pre .1 .0 .clear) .known
 
-read-segment-add-onto-2 : (t : ℕ) → read-segment-lts.Need-add-onto-2 (segment-claims t) (read-segment-at t) read-segment.Post
+read-segment-add-onto-2 : (t : ℕ) → of-segment segment.Need-add-onto-2 t
 read-segment-add-onto-2 t c = search needs
 
-read-segment-onto-requires : (t : ℕ) → read-segment-lts.Need-onto-requires (segment-claims t) (read-segment-at t) read-segment.Post
+read-segment-onto-requires : (t : ℕ) → of-segment segment.Need-onto-requires t
 read-segment-onto-requires t c κs = search needs
 
 -- the opener is passed
-passed : (t : ℕ) (c : read-segment-lts.After-onto (segment-claims t) (read-segment-at t) read-segment.Post) (cm : Command) → let a = c .before .before .before .before .before .before .before .args in
+passed : (t : ℕ) (c : of-segment segment.After-onto t) (cm : Command) →
+    let a = c .before .before .before .before .before .before .before .args in
     commandAt (a .tape .now) (a .st) ≡ cm
     → says cm (a .style) (a .name) ≡ []
     → Went (a .tape .now) (a .ws .now) (a .ws .now) (a .depth) (within (a .style) (a .name)) (λ around. next cm (a .style) around (a .name)) (a .st) (c .onto .result)
@@ -330,17 +321,18 @@ passed t c cm e q =
     went-command (a .tape .now) (a .depth) (a .name) (a .style) cm (st .pre .1 .0) e
     (rw (q, ← c .before .operand-width .ensures .0) (record { state = c .onto .ensures; bytes = refl }))
 
-on : (t : ℕ) (c : read-segment-lts.After-onto (segment-claims t) (read-segment-at t) read-segment.Post)
+on : (t : ℕ) (c : of-segment segment.After-onto t)
     → c .before .before .before .before .before .before .before .args .st .at < c .onto .result .at
 on t c = let at = ap (λ (x : State). x .at) (c .onto .ensures) in omega arith
 
 -- a voice's name
-named : (t : ℕ) (c : read-segment-lts.Then2 (segment-claims t) (read-segment-at t) read-segment.Post) → let a = c .before .before .before .before .before .before .before .before .args in commandAt (a .tape .now) (a .st) ≡ voice
+named : (t : ℕ) (c : of-segment segment.Then2 t) →
+    let a = c .before .before .before .before .before .before .before .before .args in
+    commandAt (a .tape .now) (a .st) ≡ voice
 unfolding commandOf isLetter
 named t c = rw (c .if2 .taken)
 
-read-segment-read-list-requires : (t : ℕ)
-    → read-segment-lts.Need-read-list-requires (segment-claims t) (read-segment-at t) read-segment.Post
+read-segment-read-list-requires : (t : ℕ) → of-segment segment.Need-read-list-requires t
 read-segment-read-list-requires t c κs =
     let v = c .before in
     let st = v .before .before .before .before .before .before .before .before in
@@ -350,11 +342,12 @@ read-segment-read-list-requires t c κs =
     let h = p .0 .inside in
     (omega (arith, st .pre .0), (record { on = w .to; few = w .few; space = p .0 .space }, p .2))
 
-read-segment-enum-known-named : (t : ℕ) → read-segment-lts.Need-enum-known-named (segment-claims t) (read-segment-at t) read-segment.Post
+read-segment-enum-known-named : (t : ℕ) → of-segment segment.Need-enum-known-named t
 read-segment-enum-known-named t c = search needs
 
 -- the name was read
-name : (t : ℕ) (c : read-segment-lts.After-read-list (segment-claims t) (read-segment-at t) read-segment.Post) {r : Step} → c .read-list .result ≡ r → let a = c .before .before .before .before .before .before .before .before .before .before .args in
+name : (t : ℕ) (c : of-segment segment.After-read-list t) {r : Step} → c .read-list .result ≡ r →
+    let a = c .before .before .before .before .before .before .before .before .before .before .args in
     Reads (a .tape .now) (a .ws .now) (c .read-list .last .1 .0) (a .depth) (within (a .style) (a .name)) (past (a .style) true) (a .st) r × Onward (a .st) r
 name t c e =
     let v = c .before .before in
@@ -368,20 +361,18 @@ name t c e =
     )
 
 -- the list that it opens is not too deep
-shallow : (t : ℕ) (c : read-segment-lts.Else1 (segment-claims t) (read-segment-at t) read-segment.Post)
-    → c .before .before .before .before .before .args .depth + 1 ≤ deepest
+shallow : (t : ℕ) (c : of-segment segment.Else1 t) → c .before .before .before .before .before .args .depth + 1 ≤ deepest
 shallow t c =
     let p = c .before .before .before .before .before .pre .1 in
     let deep = p .2 in
     omega (arith, not-deepest (clean _ _ _ _ _ (p .0 .clear)) (opener t c))
 
-read-segment-add-read-list : (t : ℕ) → read-segment-lts.Need-add-read-list (segment-claims t) (read-segment-at t) read-segment.Post
+read-segment-add-read-list : (t : ℕ) → of-segment segment.Need-add-read-list t
 read-segment-add-read-list t c =
     let deep = c .before .before .before .before .before .before .before .before .before .before .before .before .before .before .before .before .pre .1 .2 in
     omega arith
 
-read-segment-read-list-requires-2 : (t : ℕ)
-    → read-segment-lts.Need-read-list-requires-2 (segment-claims t) (read-segment-at t) read-segment.Post
+read-segment-read-list-requires-2 : (t : ℕ) → of-segment segment.Need-read-list-requires-2 t
 read-segment-read-list-requires-2 t c κs =
     let q = c .before .before .before .before .before .before in
     let v = q .before .before in
@@ -393,15 +384,15 @@ read-segment-read-list-requires-2 t c κs =
     let same = wrote-length (n .0 .stored) in
     (omega (arith, st .pre .0), (record { on = n .0 .to; few = n .0 .few; space = omega arith }, shallow t (v .before .before .before)))
 
-read-segment-enum-known-number : (t : ℕ) → read-segment-lts.Need-enum-known-number (segment-claims t) (read-segment-at t) read-segment.Post
+read-segment-enum-known-number : (t : ℕ) → of-segment segment.Need-enum-known-number t
 read-segment-enum-known-number t c = search needs
 
-read-segment-same-length-2 : (t : ℕ) → read-segment-lts.Need-same-length-2 (segment-claims t) (read-segment-at t) read-segment.Post
+read-segment-same-length-2 : (t : ℕ) → of-segment segment.Need-same-length-2 t
 read-segment-same-length-2 t c =
     let q = c .before .before in
     q .read-list2 .kept .1 .0 ∙ q .before .before .before .before .before .before .before .read-list .kept .1 .0
 
-read-segment-returns-2 : (t : ℕ) → read-segment-lts.Need-returns-2 (segment-claims t) (read-segment-at t) read-segment.Post
+read-segment-returns-2 : (t : ℕ) → of-segment segment.Need-returns-2 t
 read-segment-returns-2 t c =
     let l = c .before .before in
     let q = l .before .before .before .before .before .before .before in
@@ -414,14 +405,13 @@ read-segment-returns-2 t c =
       onward (a .tape .now) (a .depth) _ _ _ _ (a .st) _ r (n .1) inner,
     )
 
-read-segment-same-length-3 : (t : ℕ) → read-segment-lts.Need-same-length-3 (segment-claims t) (read-segment-at t) read-segment.Post
+read-segment-same-length-3 : (t : ℕ) → of-segment segment.Need-same-length-3 t
 read-segment-same-length-3 t c = c .before .before .before .before .before .read-list .kept .1 .0
 
-read-segment-returns-3 : (t : ℕ) → read-segment-lts.Need-returns-3 (segment-claims t) (read-segment-at t) read-segment.Post
+read-segment-returns-3 : (t : ℕ) → of-segment segment.Need-returns-3 t
 read-segment-returns-3 t c = name t (c .before .before .before .before .before) (c .before .number .given .1)
 
-read-segment-style-inside-requires : (t : ℕ)
-    → read-segment-lts.Need-style-inside-requires (segment-claims t) (read-segment-at t) read-segment.Post
+read-segment-style-inside-requires : (t : ℕ) → of-segment segment.Need-style-inside-requires t
 read-segment-style-inside-requires t c κs =
     let st = c .before .before .before .before .before .before .before .before in
     let a = st .args in
@@ -431,13 +421,13 @@ read-segment-style-inside-requires t c κs =
     let h = p .inside in
     omega arith
 
-read-segment-add-read-list-2 : (t : ℕ) → read-segment-lts.Need-add-read-list-2 (segment-claims t) (read-segment-at t) read-segment.Post
+read-segment-add-read-list-2 : (t : ℕ) → of-segment segment.Need-add-read-list-2 t
 read-segment-add-read-list-2 t c =
     let deep = c .before .before .before .before .before .before .before .before .before .before .pre .1 .2 in
     omega arith
 
 -- a list opens
-opened : (t : ℕ) (c : read-segment-lts.Else2 (segment-claims t) (read-segment-at t) read-segment.Post) → let a = c .before .before .before .before .before .before .before .before .args in
+opened : (t : ℕ) (c : of-segment segment.Else2 t) → let a = c .before .before .before .before .before .before .before .before .args in
     let o = openerOf (byteOf (a .tape .now) (a .st)) (restOf (a .tape .now) (a .st)) in
     Went (a .tape .now) (a .ws .now) (a .ws .now) (a .depth) (within (a .style) (a .name)) (λ around. next (opens o) (a .style) around (a .name)) (a .st) (c .before .onto .result)
 opened t c =
@@ -445,8 +435,7 @@ opened t c =
     let o = openerOf (byteOf (a .tape .now) (a .st)) (restOf (a .tape .now) (a .st)) in
     passed t (c .before) (opens o) (open-command _ _ (opener t (c .before .before .before)) (c .if2 .left)) refl
 
-read-segment-read-list-requires-3 : (t : ℕ)
-    → read-segment-lts.Need-read-list-requires-3 (segment-claims t) (read-segment-at t) read-segment.Post
+read-segment-read-list-requires-3 : (t : ℕ) → of-segment segment.Need-read-list-requires-3 t
 read-segment-read-list-requires-3 t c κs =
     let e = c .before .before in
     let st = e .before .before .before .before .before .before .before .before in
@@ -455,10 +444,10 @@ read-segment-read-list-requires-3 t c κs =
     let h = st .pre .1 .0 .inside in
     (omega (arith, st .pre .0), (record { on = w .to; few = w .few; space = st .pre .1 .0 .space }, shallow t (e .before .before .before)))
 
-read-segment-same-length-4 : (t : ℕ) → read-segment-lts.Need-same-length-4 (segment-claims t) (read-segment-at t) read-segment.Post
+read-segment-same-length-4 : (t : ℕ) → of-segment segment.Need-same-length-4 t
 read-segment-same-length-4 t c = c .before .before .read-list3 .kept .1 .0
 
-read-segment-returns-4 : (t : ℕ) → read-segment-lts.Need-returns-4 (segment-claims t) (read-segment-at t) read-segment.Post
+read-segment-returns-4 : (t : ℕ) → of-segment segment.Need-returns-4 t
 read-segment-returns-4 t c =
     let l = c .before .before in
     let i = l .before .before in
@@ -474,7 +463,7 @@ read-segment-returns-4 t c =
 pub +read-list+read-segment-spec : {M : Type 1} → statement M
 +read-list+read-segment-spec =
     close μ-read-list μ-read-segment
-    (λ t. read-list-lts.spec (list-claims t)
+    (λ t. list.spec (list-claims t)
     (read-list-at t)
     read-list.Post
     read-list-Inv-loop
@@ -500,7 +489,7 @@ pub +read-list+read-segment-spec : {M : Type 1} → statement M
     (read-list-returns-4 t)
     (read-list-same-length-5 t)
     (read-list-returns-5 t))
-    λ t. read-segment-lts.spec (segment-claims t)
+    λ t. segment.spec (segment-claims t)
     (read-segment-at t)
     read-segment.Post
     (read-segment-shared-slice-read-c t)

@@ -66,7 +66,9 @@ returns-3 c =
     leaf (c .before .before .before .before) timestamp (rw (c .before .if3 .taken)) (record { state = c .onto .ensures; bytes = refl })
 
 -- else it is a letter
-letter : (c : tie.Else3) → let a = c .before .before .before .before .before .before .before .args in isLetter (byteOf (a .tape .now) (a .st)) ≡ true
+letter : (c : tie.Else3) →
+    let a = c .before .before .before .before .before .before .before .args in
+    isLetter (byteOf (a .tape .now) (a .st)) ≡ true
 letter c =
     let p = c .before .before .before .before .before .before .before .pre in
     else-letter _ (p .known) (p .some) (p .flat) (c .before .before .if1 .left) (c .before .if2 .left) (c .if3 .left)
