@@ -7,7 +7,7 @@ use native.Mathlib.Omega.{arith}
 use lib.ListN.{length, drop, getD, List·getD-append}
 use lib.Seq.{getD-append-add, sets-eq}
 use Rattle.tape.specs.Runs.{Letter}
-use Rattle.tape.specs.Stored.{cellOf, cells, stored, byteAt, codeAt, odd, letterAt}
+use Rattle.tape.specs.Stored.{cellOf, cells, stored, letterByte, codeAt, odd, letterAt}
 use Rattle.tape.proofs.Stores.{length-cells}
 
 abbrev bytesOf : Letter → List ℕ
@@ -37,7 +37,7 @@ flag-bits false false false = (refl, refl, refl)
 
 module _ (ws : List ℕ) (ls : List Letter) (room : 8 * length ls ≤ length ws) (d : Letter) (i : ℕ) (h : i < length ls) where
   -- byte j of letter i
-  pub byte-is : (j : ℕ) → j < 8 → byteAt (stored ws 0 ls) i j ≡ getD (bytesOf (getD ls i d)) j 0
+  pub byte-is : (j : ℕ) → j < 8 → letterByte (stored ws 0 ls) i j ≡ getD (bytesOf (getD ls i d)) j 0
   byte-is j k =
       let n = length-cells ls in
       let rest : List ℕ = drop (0 + length (cells ls)) ws in

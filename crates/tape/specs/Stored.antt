@@ -25,12 +25,12 @@ cells (l ∷ ls) = cellOf (l .code) (l .style) (l .start) ++ cells ls
 abbrev pub stored : List ℕ → ℕ → List Letter → List ℕ
 stored ws n ls = sets ws (8 * n) (cells ls)
 
--- read back: byte j of letter number i, and the letter
-abbrev pub byteAt : List ℕ → ℕ → ℕ → ℕ
-byteAt ws i j = getD ws (8 * i + j) 0
+-- read back: byte j of letter number i, its code point and style, and the letter
+abbrev pub letterByte : List ℕ → ℕ → ℕ → ℕ
+letterByte ws i j = getD ws (8 * i + j) 0
 
 abbrev pub codeAt : List ℕ → ℕ → ℕ
-codeAt ws i = byteAt ws i 0 * 65536 + byteAt ws i 1 * 256 + byteAt ws i 2
+codeAt ws i = letterByte ws i 0 * 65536 + letterByte ws i 1 * 256 + letterByte ws i 2
 
 abbrev pub odd : ℕ → Bool
 odd n = eqb (n % 2) 1
@@ -38,13 +38,13 @@ odd n = eqb (n % 2) 1
 abbrev pub styleAt : List ℕ → ℕ → Style
 styleAt ws i =
     record {
-      red = byteAt ws i 3;
-      green = byteAt ws i 4;
-      blue = byteAt ws i 5;
-      alpha = byteAt ws i 6;
-      bold = odd (byteAt ws i 7);
-      italic = odd (byteAt ws i 7 / 2);
+      red = letterByte ws i 3;
+      green = letterByte ws i 4;
+      blue = letterByte ws i 5;
+      alpha = letterByte ws i 6;
+      bold = odd (letterByte ws i 7);
+      italic = odd (letterByte ws i 7 / 2);
     }
 
 abbrev pub letterAt : List ℕ → ℕ → Letter
-letterAt ws i = record { code = codeAt ws i; style = styleAt ws i; start = odd (byteAt ws i 7 / 4) }
+letterAt ws i = record { code = codeAt ws i; style = styleAt ws i; start = odd (letterByte ws i 7 / 4) }

@@ -31,7 +31,7 @@ says (opens o) s name = []
 says voice s name = []
 says timestamp s name = []
 
--- the frame after a list has ended: the style around it is in force again
+-- the frame after a list has ended: the style around it is in force again (a 00 in the outer list is a fault)
 abbrev pub leave : Style → List Style → Frame
 leave s [] = frame s [] false
 leave s (t ∷ around) = frame t around false
