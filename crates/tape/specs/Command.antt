@@ -49,13 +49,13 @@ added name c = cond (leb 0x02 c && leb c 0x05) 1 (cond (eqb c 0x00 && name) 2 0)
 -- It stands in a voice's name or not, in a list of this depth.
 unfoldable pub faultOf : Bool → ℕ → ℕ → ℕ → List ℕ → ℕ
 faultOf name depth n c rest =
-    cond (ltb 0x0b c) 1
-    (cond (name && not (eqb c 0x00 || isLetter c)) 7
-    (cond (isOpener c && eqb depth deepest) 5
-    (cond (ltb (length rest) (width c)) 2
-    (cond (isLetter c && not (isScalar (codePoint c rest))) 4
-    (cond (ltb mostLetters (n + added name c)) 6
-    (cond (eqb c 0x00 && (not name && eqb depth 0)) 3
+    cond (ltb 0x0b c) 1  -- an unknown command
+    (cond (name && not (eqb c 0x00 || isLetter c)) 7  -- neither a letter nor 00, in a name
+    (cond (isOpener c && eqb depth deepest) 5  -- an opener in the deepest list
+    (cond (ltb (length rest) (width c)) 2  -- operands are missing
+    (cond (isLetter c && not (isScalar (codePoint c rest))) 4  -- a surrogate, or over 10FFFF
+    (cond (ltb mostLetters (n + added name c)) 6  -- a letter too many
+    (cond (eqb c 0x00 && (not name && eqb depth 0)) 3  -- a 00 in the outer list
     0))))))
 
 -- what a command stands for

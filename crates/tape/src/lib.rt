@@ -1,6 +1,6 @@
 // The cue tape and its reader: letters with their styles go into a lent workspace.
 // Carried over from `flatten_segments` and `walk` of src/compositor.rs of oxideav-subtitle; what a
-// tape means is in specs/.
+// tape means is in specs/. `ws` is the workspace throughout.
 mod command;
 mod letter;
 mod reader;
