@@ -66,32 +66,42 @@ fn wide(x: u8) -> usize
     x as usize
 }
 
-// Where the tape ends whose length stands at a place.
+// Where the tape ends whose length stands at a place; past the sample's end where it is cut short.
 fn tape_end(sample: &[u8], at: usize) -> usize
-    requires { ⌜ at + 2 ≤ length (now sample) ⌝ }
-    ensures { λ r. ⌜ at + 2 ≤ r ⌝ }
+    requires { ⌜ at < length (now sample) ⌝ }
+    ensures { λ r. ⌜ (r ≤ length (now (sample .entry)) → at + 2 ≤ r) ⌝ }
 {
+    if sample.len() - at < 2 {
+        return sample.len() + 1;
+    }
     at + 2 + wide(sample[at]) * 256 + wide(sample[at + 1])
 }
 
-fn replay(sample: &[u8], workspace: &mut [u8]) {
+// Reads tape after tape; false where the sample is cut short.
+fn replay(sample: &[u8], workspace: &mut [u8]) -> bool {
     let mut at = 0;
-    while at + 2 <= sample.len() {
+    while at < sample.len() {
         let end = tape_end(sample, at);
         if sample.len() < end {
-            io::write_all(STDOUT_FILENO, b"cut short\n");
-            return;
+            return false;
         }
         if !print_tape(&sample[at + 2..end], workspace) {
-            return;
+            return true;
         }
         at = end;
     }
+    true
 }
 
 fn main() {
     let mut sample = io::large_buffer();
     let mut workspace = io::large_buffer();
     let end = io::read_full(STDIN_FILENO, &mut sample);
-    replay(&sample[0..end], &mut workspace);
+    if end == sample.len() {
+        io::write_all(STDOUT_FILENO, b"the sample has more than 65,535 bytes\n");
+        return;
+    }
+    if !replay(&sample[0..end], &mut workspace) {
+        io::write_all(STDOUT_FILENO, b"the sample is cut short\n");
+    }
 }

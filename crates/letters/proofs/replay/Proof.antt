@@ -1,5 +1,5 @@
 use mathlib.Core.Path.{_≡_, _∙_, refl}
-use Prim.Native.Nat.{_-_, _≤_}
+use Prim.Native.Nat.{_+_, _-_, _≤_}
 use borrow.Author.Needs.{needs}
 use native.Mathlib.Omega.{arith}
 use lib.ListN.{length}
@@ -7,40 +7,35 @@ use Rattle.letters.proofs.replay.Statement.{statement}
 use Rattle.letters.proofs.replay.Tie as tie
 
 abbrev Inv-loop : tie.InvT-loop
-Inv-loop sample workspace₀ at₀ t5 workspace at = (at ≤ length sample) × (length workspace ≡ length workspace₀)
+Inv-loop sample workspace₀ at₀ workspace at = (at ≤ length sample) × (length workspace ≡ length workspace₀)
 
 abbrev μ-loop : tie.MeasureT-loop
-μ-loop sample workspace₀ at₀ t5 workspace at = length sample - at
+μ-loop sample workspace₀ at₀ workspace at = length sample - at
 
 loop-holds : tie.Need-loop-holds Inv-loop μ-loop
 loop-holds c = (omega arith, refl)
 
-add-loop : tie.Need-add-loop Inv-loop μ-loop
-add-loop c = search needs
-
 tape-end-requires : tie.Need-tape-end-requires Inv-loop μ-loop
 tape-end-requires c κs = search needs
 
-slice-aggregate-write-all : tie.Need-slice-aggregate-write-all Inv-loop μ-loop
-slice-aggregate-write-all c = search needs
-
-write-all-requires : tie.Need-write-all-requires Inv-loop μ-loop
-write-all-requires c κs = search needs
-
 same-length : tie.Need-same-length Inv-loop μ-loop
-same-length c = c .before .before .before .before .before .loop .inv .1
+same-length c = c .before .before .before .loop .inv .1
 
 returns : tie.Need-returns Inv-loop μ-loop
 returns c = tt
+
+-- a tape that is whole ends behind its length
+far : (c : tie.Else1 Inv-loop μ-loop) → c .before .before .before .loop .at + 2 ≤ c .before .tape-end .result
+far c = c .before .tape-end .ensures (c .if1 .left)
 
 add-print-tape : tie.Need-add-print-tape Inv-loop μ-loop
 add-print-tape c = search needs
 
 sub-print-tape : tie.Need-sub-print-tape Inv-loop μ-loop
-sub-print-tape c = search needs
+sub-print-tape c = far c
 
 part-print-tape-start : tie.Need-part-print-tape-start Inv-loop μ-loop
-part-print-tape-start c = search needs
+part-print-tape-start c = let h = far c in search needs
 
 part-print-tape-end : tie.Need-part-print-tape-end Inv-loop μ-loop
 part-print-tape-end c = search needs
@@ -58,10 +53,9 @@ returns-2 c = tt
 
 loop-less : tie.Need-loop-less Inv-loop μ-loop
 loop-less c =
-    let p = c .before .before .before in
-    let e = p .before .before .before in
-    let on = e .before .tape-end .ensures in
-    let h = e .if1 .left in
+    let e = c .before .before .before .before .before .before in
+    let h = far e in
+    let l = e .if1 .left in
     omega arith
 
 loop-again : tie.Need-loop-again Inv-loop μ-loop
@@ -82,10 +76,7 @@ replay-spec =
     Inv-loop
     μ-loop
     loop-holds
-    add-loop
     tape-end-requires
-    slice-aggregate-write-all
-    write-all-requires
     same-length
     returns
     add-print-tape
