@@ -15,9 +15,6 @@ use Rattle.tape.specs.Tape.{says}
 use Rattle.tape.specs.Marks.{Last, marked}
 use Rattle.tape.proofs.Styles.{split}
 
-pub positive : (c : ℕ) → (c ≡ 0 → ⊥) → 0 < c
-positive c h = omega (arith, h)
-
 -- from 06 on a command is an opener, a voice or a time mark
 from-six : (c : ℕ) (rest : List ℕ) → 6 ≤ c
     → commandOf c rest ≡ cond (eqb c 9) voice (cond (eqb c 11) timestamp (opens (openerOf c rest)))

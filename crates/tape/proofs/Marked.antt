@@ -1,6 +1,6 @@
 -- The letters that the reader makes, one run after the other, are those of the merged runs.
 use mathlib.Core.Path.{_≡_, refl, sym, ap}
-use mathlib.Core.Bool.{Bool, true, false, _&&_, _||_}
+use mathlib.Core.Bool.{Bool, true, false, _&&_, and-true, or-true, or-false}
 use mathlib.Core.List.{List, [], _∷_, _++_, append-assoc}
 use Prim.Native.Nat.{ℕ}
 use Rattle.tape.specs.declared.Style.{Style}
@@ -8,18 +8,6 @@ use Rattle.tape.specs.Style.{sameStyle}
 use Rattle.tape.specs.Runs.{Run, run, mergeInto, merge, Letter, lettersIn, lettersOf}
 use Rattle.tape.specs.Marks.{last, empty, marked}
 use Rattle.tape.proofs.Styles.{same-eq}
-
-or-false : (b : Bool) → (b || false) ≡ b
-or-false true = refl
-or-false false = refl
-
-or-true : (b : Bool) → (b || true) ≡ true
-or-true true = refl
-or-true false = refl
-
-and-true : (b : Bool) → (b && true) ≡ b
-and-true true = refl
-and-true false = refl
 
 empty-append : (us vs : List ℕ) → empty (us ++ vs) ≡ (empty vs && empty us)
 empty-append [] vs = sym (and-true (empty vs))

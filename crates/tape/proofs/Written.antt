@@ -1,6 +1,6 @@
 -- The tape that segments write means the runs that walking them gives.
 use mathlib.Core.Path.{_≡_, _∙_, refl, sym, ap, ap₂, subst}
-use mathlib.Core.Bool.{Bool, true, false, not, _&&_, _||_}
+use mathlib.Core.Bool.{Bool, true, false, not, _&&_, _||_, and-false}
 use mathlib.Core.List.{List, [], _∷_, _++_, append-assoc, append-nil}
 use Prim.Native.Nat.{ℕ, suc, _+_, _/_, _%_, _≤_, _<_}
 use native.Mathlib.Nat.{add-zero, add-assoc}
@@ -46,10 +46,6 @@ means-then {f} {g} {h} {n} {m} {k} {xs = xs} {ys = ys} a b =
     }
 
 -- ---- commands
-
-and-false : (b : Bool) → (b && false) ≡ false
-and-false true = refl
-and-false false = refl
 
 two : isLetter 2 ≡ true
 unfolding isLetter

@@ -2,7 +2,7 @@ use mathlib.Core.Path.{_≡_, _∙_, refl, sym, ap, subst}
 use mathlib.Core.Bool.{true, false, not}
 use mathlib.Core.List.{[]}
 use Prim.Native.Nat.{ℕ, _+_, _*_, _-_, _≤_, _<_}
-use native.Mathlib.Nat.{add-zero}
+use native.Mathlib.Nat.{add-zero, pos-of-ne-zero}
 use native.Mathlib.Omega.{arith}
 use borrow.Author.Needs.{needs}
 use borrow.Author.Tests.{eqb-true, not-true, not-false}
@@ -16,7 +16,7 @@ use Rattle.tape.specs.Outcome.{refused}
 use Rattle.tape.specs.Command.{deepest, isLetter, isOpener, added, Command, ends, opens, voice, openerOf, commandOf}
 use Rattle.tape.specs.Tape.{says, next}
 use Rattle.tape.specs.Reading.{byteOf, restOf, commandAt, within, past, Sound, Went, Reads, Onward, SegmentRead}
-use Rattle.tape.proofs.Commands.{positive, open-command}
+use Rattle.tape.proofs.Commands.{open-command}
 use Rattle.tape.proofs.Faults.{clean, not-outer, not-deepest, opens-in-list}
 use Rattle.tape.proofs.Leaves.{leaf, went-leaf}
 use Rattle.tape.proofs.Steps.{end-from, end-inside}
@@ -180,7 +180,7 @@ read-list-read-segment-requires t c κs =
     let st = o .before .before .before .before .before .before .before in
     let on = o .before .before .before .before .loop .inv .on in
     let h = o .before .before .if1 .taken in
-    (omega (arith, st .pre .0), (sound t o, positive _ (c .before .if3 .left), st .pre .1 .1))
+    (omega (arith, st .pre .0), (sound t o, pos-of-ne-zero (c .before .if3 .left), st .pre .1 .1))
 
 read-list-enum-known-after : (t : ℕ) → of-list list.Need-enum-known-after t
 read-list-enum-known-after t c = search needs
