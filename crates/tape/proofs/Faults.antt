@@ -1,34 +1,53 @@
 -- The table of faults, test by test, and what a command without a fault has.
 use mathlib.Core.Path.{_≡_, refl}
 use mathlib.Core.Bool.{Bool, true, false, cond, not, _&&_, _||_}
-use mathlib.Core.List.{List}
-use Prim.Native.Nat.{ℕ, suc, _+_, _≤_, _<_}
+use mathlib.Core.List.{List, [], _∷_}
+use Prim.Native.Nat.{ℕ, _+_, _≤_, _<_}
 use native.Mathlib.Omega.{arith}
 use borrow.Author.Tests.{leb-true, le-leb, lt-leb, le-ltb, ltb-false, eq-eqb, ne-eqb, eqb-false}
-use lib.Dec.{lit≤, leb, ltb, eqb}
+use lib.Dec.{T, lit≤, leb, leb→le, ltb, ltb→lt, eqb}
+use lib.Ieee.Fits.{and-l, and-r}
 use lib.ListN.{length}
 use Rattle.tape.proofs.Styles.{split}
-use Rattle.tape.specs.Command.{deepest, mostLetters, width, codePoint, isLetter, isOpener, isScalar, added, faultOf}
+use Rattle.tape.specs.Command.{deepest, mostLetters, width, codePoint, isLetter, isOpener, isScalar, added, faultTests, firstOf, faultOf}
 
--- the first fault of a command from each number on, in the table's order
-module _ (name : Bool) (depth n c : ℕ) (rest : List ℕ) where
-  abbrev pub from3 : ℕ
-  from3 = cond (eqb c 0 && (not name && eqb depth 0)) 3 0
+-- the test of a number in a table
+abbrev testOf : ℕ → List (ℕ × Bool) → Bool
+testOf k [] = false
+testOf k (t ∷ ts) = cond (eqb (t .0) k) (t .1) (testOf k ts)
 
-  abbrev pub from6 : ℕ
-  from6 = cond (ltb mostLetters (n + added name c)) 6 from3
+-- the numbers of a table are from 1 to 7
+abbrev numbered : List (ℕ × Bool) → Bool
+numbered [] = true
+numbered (t ∷ ts) = (ltb 0 (t .0) && leb (t .0) 7) && numbered ts
 
-  abbrev pub from4 : ℕ
-  from4 = cond (isLetter c && not (isScalar (codePoint c rest))) 4 from6
+cond-most : (b : Bool) (x y : ℕ) → x ≤ 7 → y ≤ 7 → cond b x y ≤ 7
+cond-most true x y h k = h
+cond-most false x y h k = k
 
-  abbrev pub from2 : ℕ
-  from2 = cond (ltb (length rest) (width c)) 2 from4
+cond-zero : (b : Bool) (x y : ℕ) → 0 < x → cond b x y ≡ 0 → (b ≡ false) × (y ≡ 0)
+cond-zero true x y h e = absurd (omega arith)
+cond-zero false x y h e = (refl, e)
 
-  abbrev pub from5 : ℕ
-  from5 = cond (isOpener c && eqb depth deepest) 5 from2
+cond-false : (b x y : Bool) → x ≡ false → y ≡ false → cond b x y ≡ false
+cond-false true x y h k = h
+cond-false false x y h k = k
 
-  abbrev pub from7 : ℕ
-  from7 = cond (name && not (eqb c 0 || isLetter c)) 7 from5
+first-most : (ts : List (ℕ × Bool)) → T (numbered ts) → firstOf ts ≤ 7
+first-most [] h = lit≤ tt
+first-most (t ∷ ts) h =
+    let one = and-l (ltb 0 (t .0) && leb (t .0) 7) (numbered ts) h in
+    cond-most (t .1) (t .0) (firstOf ts) (leb→le (t .0) 7 (and-r (ltb 0 (t .0)) (leb (t .0) 7) one))
+    (first-most ts (and-r (ltb 0 (t .0) && leb (t .0) 7) (numbered ts) h))
+
+-- where the first number is 0, no test holds
+none-holds : (ts : List (ℕ × Bool)) → T (numbered ts) → firstOf ts ≡ 0 → (k : ℕ) → testOf k ts ≡ false
+none-holds [] h e k = refl
+none-holds (t ∷ ts) h e k =
+    let one = and-l (ltb 0 (t .0) && leb (t .0) 7) (numbered ts) h in
+    let z = cond-zero (t .1) (t .0) (firstOf ts) (ltb→lt 0 (t .0) (and-l (ltb 0 (t .0)) (leb (t .0) 7) one)) e in
+    cond-false (eqb (t .0) k) (t .1) (testOf k ts) (z .0)
+    (none-holds ts (and-r (ltb 0 (t .0) && leb (t .0) 7) (numbered ts) h) (z .1) k)
 
 -- no test of the table holds
 pub record Clean (name : Bool) (depth n c : ℕ) (rest : List ℕ) : Type 0 where
@@ -40,40 +59,25 @@ pub record Clean (name : Bool) (depth n c : ℕ) (rest : List ℕ) : Type 0 wher
   pub few : n + added name c ≤ mostLetters
   pub nested : (eqb c 0 && (not name && eqb depth 0)) ≡ false
 
-cases : (P : ℕ → Type 0) (b : Bool) (x y : ℕ) → P x → (b ≡ false → P y) → P (cond b x y)
-cases P true x y p q = p
-cases P false x y p q = q refl
-
 module _ (name : Bool) (depth n c : ℕ) (rest : List ℕ) where
-  -- what holds of each number that a fault may have, and of 0 where there is none, holds of the table
-  pub faults : (P : ℕ → Type 0) → P 1 → P 7 → P 5 → P 2 → P 4 → P 6 → P 3 → (Clean name depth n c rest → P 0) → P (faultOf name depth n c rest)
-  unfolding faultOf
-  faults P p1 p7 p5 p2 p4 p6 p3 p0 =
-      cases P (ltb 11 c) 1 (from7 name depth n c rest) p1 λ known.
-      cases P _ 7 (from5 name depth n c rest) p7 λ plain.
-      cases P _ 5 (from2 name depth n c rest) p5 λ shallow.
-      cases P _ 2 (from4 name depth n c rest) p2 λ whole.
-      cases P _ 4 (from6 name depth n c rest) p4 λ scalar.
-      cases P _ 6 (from3 name depth n c rest) p6 λ few.
-      cases P _ 3 0 p3 λ nested.
-      p0
-      (record {
-        known = omega (arith, ltb-false 11 c known);
-        plain = plain;
-        shallow = shallow;
-        whole = ltb-false (length rest) (width c) whole;
-        scalar = scalar;
-        few = ltb-false mostLetters (n + added name c) few;
-        nested = nested;
-      })
-
   pub fault-most : faultOf name depth n c rest ≤ 7
-  fault-most = faults (λ k. k ≤ 7) (lit≤ tt) (lit≤ tt) (lit≤ tt) (lit≤ tt) (lit≤ tt) (lit≤ tt) (lit≤ tt) (λ ok. lit≤ tt)
+  unfolding faultOf
+  fault-most = first-most (faultTests name depth n c rest) tt
 
   pub clean : faultOf name depth n c rest ≡ 0 → Clean name depth n c rest
-  clean =
-      let other : (k : ℕ) → suc k ≡ 0 → Clean name depth n c rest = λ k e. absurd (omega arith) in
-      faults (λ k. k ≡ 0 → Clean name depth n c rest) (other 0) (other 6) (other 4) (other 1) (other 3) (other 5) (other 2) (λ ok e. ok)
+  unfolding faultOf
+  clean e =
+      let no : (k : ℕ) → testOf k (faultTests name depth n c rest) ≡ false = none-holds (faultTests name depth n c rest) tt e in
+      let known = ltb-false 11 c (no 1) in
+      record {
+        known = omega arith;
+        plain = no 7;
+        shallow = no 5;
+        whole = ltb-false (length rest) (width c) (no 2);
+        scalar = no 4;
+        few = ltb-false mostLetters (n + added name c) (no 6);
+        nested = no 3;
+      }
 
   -- and the other way round
   pub no-fault : Clean name depth n c rest → faultOf name depth n c rest ≡ 0

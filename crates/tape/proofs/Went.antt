@@ -26,6 +26,12 @@ use Rattle.tape.proofs.Stores.{wrote-then}
 pub wrote-length : {ws ws' : List ℕ} {a b : State} {rs : List Run} {at : ℕ} → Wrote ws ws' a b rs at → length ws' ≡ length ws
 wrote-length {ws} {a = a} {rs = rs} w = ap length (w .bytes) ∙ length-sets ws (8 * a .count) (cells (marked (lastOf a) rs))
 
+-- the same reading, seen in other frames
+reframed : {tape u v : List ℕ} {d d' : ℕ} {X Y X' Y' : List Style → Frame} {a b : State} (h : Went tape u v d X Y a b)
+    → ((around : List Style) → length around ≡ d' → from tape (X' around) (a .at) (a .count) ≡ after (h .runs) (from tape (Y' around) (b .at) (b .count)))
+    → Went tape u v d' X' Y' a b
+reframed h same = record { runs = h .runs; stored = h .stored; on = h .on; to = h .to; few = h .few; same = same }
+
 module _ (tape : List ℕ) (depth : ℕ) where
   -- nothing has been read yet
   pub went-none : (X : List Style → Frame) (ws : List ℕ) (a : State) → a .at ≤ length tape → a .count ≤ mostLetters
@@ -70,15 +76,7 @@ module _ (tape : List ℕ) (depth : ℕ) where
   -- a list inside, for the list around it
   pub inner-reads : (X Y : List Style → Frame) (u v : List ℕ) (a : State) (s : Style) (r : Step) → Reads tape u v (depth + 1) X Y a r
       → Reads tape u v depth (λ around. X (s ∷ around)) (λ around. Y (s ∷ around)) a r
-  inner-reads X Y u v a s (Done b) h =
-      record {
-        runs = h .runs;
-        stored = h .stored;
-        on = h .on;
-        to = h .to;
-        few = h .few;
-        same = λ around e. h .same (s ∷ around) (ap suc e ∙ sym (add-one depth));
-      }
+  inner-reads X Y u v a s (Done b) h = reframed h (λ around e. h .same (s ∷ around) (ap suc e ∙ sym (add-one depth)))
   inner-reads X Y u v a s (Refused number place) h = λ around e. h (s ∷ around) (ap suc e ∙ sym (add-one depth))
 
   -- a command with a fault
@@ -123,14 +121,7 @@ pub went-outer : {tape ws ws' : List ℕ} {name : Bool} {depth : ℕ} {X : List 
     → Went tape ws ws' depth X (within s name) a b
     → Went tape ws ws' depth X (past s name) a b
 went-outer {tape} {name = name} {s = s} {b = b} f z h =
-    record {
-      runs = h .runs;
-      stored = h .stored;
-      on = h .on;
-      to = h .to;
-      few = h .few;
-      same = λ around d. h .same around d ∙ ap (λ (f : Frame). after (h .runs) (from tape f (b .at) (b .count))) (outer around (d ∙ z));
-    }
+    reframed h (λ around d. h .same around d ∙ ap (λ (f : Frame). after (h .runs) (from tape f (b .at) (b .count))) (outer around (d ∙ z)))
   where
     outer : (around : List Style) → length around ≡ 0 → within s name around ≡ past s name around
     outer [] e = rw f refl

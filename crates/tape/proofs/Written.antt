@@ -59,17 +59,17 @@ four : isLetter 4 ≡ true
 unfolding isLetter
 four = refl
 
-spells-1 : (v : ℕ) (rest : List ℕ) → codePoint 2 (v ∷ rest) ≡ v
+written-1 : (v : ℕ) (rest : List ℕ) → codePoint 2 (v ∷ rest) ≡ v
 unfolding codePoint
-spells-1 v rest = omega arith
+written-1 v rest = omega arith
 
-spells-2 : (v : ℕ) (rest : List ℕ) → codePoint 3 (v / 256 ∷ v % 256 ∷ rest) ≡ v
+written-2 : (v : ℕ) (rest : List ℕ) → codePoint 3 (v / 256 ∷ v % 256 ∷ rest) ≡ v
 unfolding codePoint
-spells-2 v rest = omega arith
+written-2 v rest = omega arith
 
-spells-3 : (v : ℕ) (rest : List ℕ) → codePoint 4 (v / 65536 ∷ v / 256 % 256 ∷ v % 256 ∷ rest) ≡ v
+written-3 : (v : ℕ) (rest : List ℕ) → codePoint 4 (v / 65536 ∷ v / 256 % 256 ∷ v % 256 ∷ rest) ≡ v
 unfolding codePoint
-spells-3 v rest = omega arith
+written-3 v rest = omega arith
 
 -- one command without a fault
 module _ (s : Style) (around : List Style) (name : Bool) (n : ℕ) where
@@ -115,12 +115,12 @@ module _ (s : Style) (around : List Style) (name : Bool) (n : ℕ) where
 
       long : ltb v 0x100 ≡ false → (t : Bool) → ltb v 0x10000 ≡ t
           → Means (frame s around name) (frame s around name) n (n + 1) (run s (v ∷ []) ∷ []) (letterBytes v)
-      long a true e = rw (a, e) (as-command 3 (v / 256 ∷ v % 256 ∷ []) (lit< tt) three refl refl (λ rest. spells-2 v rest))
-      long a false e = rw (a, e) (as-command 4 (v / 65536 ∷ v / 256 % 256 ∷ v % 256 ∷ []) (lit< tt) four refl refl (λ rest. spells-3 v rest))
+      long a true e = rw (a, e) (as-command 3 (v / 256 ∷ v % 256 ∷ []) (lit< tt) three refl refl (λ rest. written-2 v rest))
+      long a false e = rw (a, e) (as-command 4 (v / 65536 ∷ v / 256 % 256 ∷ v % 256 ∷ []) (lit< tt) four refl refl (λ rest. written-3 v rest))
 
       short : (t : Bool) → ltb v 0x100 ≡ t
           → Means (frame s around name) (frame s around name) n (n + 1) (run s (v ∷ []) ∷ []) (letterBytes v)
-      short true e = rw e (as-command 2 (v ∷ []) (lit< tt) two refl refl (λ rest. spells-1 v rest))
+      short true e = rw e (as-command 2 (v ∷ []) (lit< tt) two refl refl (λ rest. written-1 v rest))
       short false e = long e (ltb v 0x10000) refl
 
 -- texts and time marks

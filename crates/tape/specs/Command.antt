@@ -45,18 +45,27 @@ isScalar v = ltb v 0xd800 || (ltb 0xdfff v && leb v 0x10ffff)
 unfoldable pub added : Bool → ℕ → ℕ
 added name c = cond (leb 0x02 c && leb c 0x05) 1 (cond (eqb c 0x00 && name) 2 0)
 
--- The number of the first fault of command c before the bytes `rest`, where n letters came before it; 0 where it has none.
--- It stands in a voice's name or not, in a list of this depth.
+-- The faults that a command may have, each with its test, in the order in which they are looked for.
+-- Command c stands before the bytes `rest`, in a voice's name or not, in a list of this depth, and n letters came before it.
+abbrev pub faultTests : Bool → ℕ → ℕ → ℕ → List ℕ → List (ℕ × Bool)
+faultTests name depth n c rest =
+    (1, ltb 0x0b c)  -- an unknown command
+    ∷ (7, name && not (eqb c 0x00 || isLetter c))  -- neither a letter nor 00, in a name
+    ∷ (5, isOpener c && eqb depth deepest)  -- an opener in the deepest list
+    ∷ (2, ltb (length rest) (width c))  -- operands are missing
+    ∷ (4, isLetter c && not (isScalar (codePoint c rest)))  -- a surrogate, or over 10FFFF
+    ∷ (6, ltb mostLetters (n + added name c))  -- a letter too many
+    ∷ (3, eqb c 0x00 && (not name && eqb depth 0))  -- a 00 in the outer list
+    ∷ []
+
+-- the number of the first test that holds, and 0 where none does
+abbrev pub firstOf : List (ℕ × Bool) → ℕ
+firstOf [] = 0
+firstOf (t ∷ ts) = cond (t .1) (t .0) (firstOf ts)
+
+-- the number of a command's first fault
 unfoldable pub faultOf : Bool → ℕ → ℕ → ℕ → List ℕ → ℕ
-faultOf name depth n c rest =
-    cond (ltb 0x0b c) 1  -- an unknown command
-    (cond (name && not (eqb c 0x00 || isLetter c)) 7  -- neither a letter nor 00, in a name
-    (cond (isOpener c && eqb depth deepest) 5  -- an opener in the deepest list
-    (cond (ltb (length rest) (width c)) 2  -- operands are missing
-    (cond (isLetter c && not (isScalar (codePoint c rest))) 4  -- a surrogate, or over 10FFFF
-    (cond (ltb mostLetters (n + added name c)) 6  -- a letter too many
-    (cond (eqb c 0x00 && (not name && eqb depth 0)) 3  -- a 00 in the outer list
-    0))))))
+faultOf name depth n c rest = firstOf (faultTests name depth n c rest)
 
 -- what a command stands for
 pub data Command : Type 0 where

@@ -47,7 +47,15 @@ fn admitted() -> Vec<(Vec<Segment>, Vec<u8>)> {
     for wrap in OPENERS {
         add(nested(wrap, DEEPEST));
     }
-    add((0..MOST_LETTERS).map(|_| Segment::LineBreak).collect());
+    let breaks = || (0..MOST_LETTERS).map(|_| Segment::LineBreak);
+    add(breaks().collect());
+    // Behind 4,096 letters, what adds none.
+    let none = [
+        Segment::Timestamp {},
+        Segment::Text(String::new()),
+        Segment::Bold(Vec::new()),
+    ];
+    add(breaks().chain(none).collect());
     add(vec![voice(MOST_LETTERS - 2)]);
     add(vec![text(MOST_LETTERS - 2), voice(0)]);
     // As many letters and as many bytes as there may be.
@@ -84,7 +92,7 @@ fn stopped() -> Vec<(Vec<u8>, u32, usize)> {
     for letter in [&[0x02, 0x41][..], &[0x03, 0, 0x41], &[0x04, 0, 0, 0x41]] {
         cases.push(([&full, letter].concat(), 6, MOST_LETTERS));
     }
-    // What adds no letter is admitted behind 4,096; a surrogate is 4 before it is 6.
+    // A surrogate is 4 before it is 6.
     let surrogate = [&full[..], &[0x03, 0xd8, 0x00]].concat();
     cases.push((surrogate, 4, MOST_LETTERS));
     // ": " is two letters, at the 00 of the name.

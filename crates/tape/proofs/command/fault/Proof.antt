@@ -1,22 +1,19 @@
 use mathlib.Core.Path.{_≡_, _∙_, sym}
-use mathlib.Core.Bool.{Bool}
-use mathlib.Core.List.{List}
 use Prim.Native.Nat.{ℕ, _+_}
 use borrow.Author.Needs.{needs}
 use borrow.Author.Tests.{lt-ltb, le-ltb}
 use lib.ListN.{getD, drop, length-drop}
-use Rattle.tape.specs.Command.{faultOf}
-use Rattle.tape.proofs.Faults.{from3, from6, from4, from2, from5, from7}
+use Rattle.tape.specs.Command.{faultTests, firstOf, faultOf}
 use Rattle.tape.proofs.command.fault.Statement.{statement}
 use Rattle.tape.proofs.command.fault.Tie as tie
 
--- the tests so far have failed: the fault is what f says of the rest of the table
-abbrev Left : tie.Start → (Bool → ℕ → ℕ → ℕ → List ℕ → ℕ) → Type 0
-Left s f =
+-- the first i tests of the table have failed: the fault is the first of the others
+abbrev Left : tie.Start → ℕ → Type 0
+Left s i =
     let a = s .args in
     let c = getD (a .tape .now) (a .at) 0 in
     let rest = drop (a .at + 1) (a .tape .now) in
-    faultOf (a .name) (a .depth) (a .count) c rest ≡ f (a .name) (a .depth) (a .count) c rest
+    faultOf (a .name) (a .depth) (a .count) c rest ≡ firstOf (drop i (faultTests (a .name) (a .depth) (a .count) c rest))
 
 shared-slice-read-c : tie.Need-shared-slice-read-c
 shared-slice-read-c c = search needs
@@ -25,7 +22,7 @@ returns : tie.Need-returns
 unfolding faultOf
 returns c = rw (lt-ltb _ _ (c .if1 .taken))
 
-left-1 : (c : tie.Else1) → Left (c .before .before .before) from7
+left-1 : (c : tie.Else1) → Left (c .before .before .before) 1
 unfolding faultOf
 left-1 c = rw (le-ltb _ _ (c .if1 .left))
 
@@ -35,7 +32,7 @@ is-strange-requires c κs = search needs
 returns-2 : tie.Need-returns-2
 returns-2 c = sym (left-1 (c .before .before) ∙ rw (← c .before .is-strange .ensures, c .if2 .taken))
 
-left-2 : (c : tie.Else2) → Left (c .before .before .before .before .before) from5
+left-2 : (c : tie.Else2) → Left (c .before .before .before .before .before) 2
 left-2 c = left-1 (c .before .before) ∙ rw (← c .before .is-strange .ensures, c .if2 .left)
 
 is-too-deep-requires : tie.Need-is-too-deep-requires
@@ -44,7 +41,7 @@ is-too-deep-requires c κs = search needs
 returns-3 : tie.Need-returns-3
 returns-3 c = sym (left-2 (c .before .before) ∙ rw (← c .before .is-too-deep .ensures, c .if3 .taken))
 
-left-3 : (c : tie.Else3) → Left (c .before .before .before .before .before .before .before) from2
+left-3 : (c : tie.Else3) → Left (c .before .before .before .before .before .before .before) 3
 left-3 c = left-2 (c .before .before) ∙ rw (← c .before .is-too-deep .ensures, c .if3 .left)
 
 add-if4 : tie.Need-add-if4
@@ -61,7 +58,7 @@ returns-4 c =
     let w = c .before .operand-width .ensures .0 in
     sym (left-3 (c .before .before) ∙ rw (length-drop, ← w, lt-ltb _ _ (c .if4 .taken)))
 
-left-4 : (c : tie.Else4) → Left (c .before .before .before .before .before .before .before .before .before) from4
+left-4 : (c : tie.Else4) → Left (c .before .before .before .before .before .before .before .before .before) 4
 left-4 c =
     let w = c .before .operand-width .ensures .0 in
     left-3 (c .before .before) ∙ rw (length-drop, ← w, le-ltb _ _ (c .if4 .left))
@@ -72,7 +69,7 @@ is-no-scalar-requires c κs = search needs
 returns-5 : tie.Need-returns-5
 returns-5 c = sym (left-4 (c .before .before) ∙ rw (← c .before .is-no-scalar .ensures, c .if5 .taken))
 
-left-5 : (c : tie.Else5) → Left (c .before .before .before .before .before .before .before .before .before .before .before) from6
+left-5 : (c : tie.Else5) → Left (c .before .before .before .before .before .before .before .before .before .before .before) 5
 left-5 c = left-4 (c .before .before) ∙ rw (← c .before .is-no-scalar .ensures, c .if5 .left)
 
 letters-added-requires : tie.Need-letters-added-requires
@@ -87,7 +84,7 @@ returns-6 c =
     sym (left-5 (c .before .before) ∙ rw (← more, lt-ltb _ _ (c .if6 .taken)))
 
 left-6 : (c : tie.Else6)
-    → Left (c .before .before .before .before .before .before .before .before .before .before .before .before .before) from3
+    → Left (c .before .before .before .before .before .before .before .before .before .before .before .before .before) 6
 left-6 c =
     let more = c .before .letters-added .ensures .0 in
     left-5 (c .before .before) ∙ rw (← more, le-ltb _ _ (c .if6 .left))
