@@ -3,7 +3,7 @@
 use std::env;
 use std::path::PathBuf;
 
-const LIBRARIES: [&str; 2] = ["font_c", "tape_c"];
+const LIBRARIES: [&str; 3] = ["font_c", "tape_c", "captions"];
 
 fn main() {
     println!("cargo::rerun-if-changed=build.rs");

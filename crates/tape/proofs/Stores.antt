@@ -34,7 +34,7 @@ cells-append : (ls ms : List Letter) → cells (ls ++ ms) ≡ cells ls ++ cells 
 cells-append [] ms = refl
 cells-append (l ∷ ls) ms = ap (λ (x : List ℕ). cellOf (l .code) (l .style) (l .start) ++ x) (cells-append ls ms)
 
-sets-append : (ws : List ℕ) (i : ℕ) (xs ys : List ℕ) → sets (sets ws i xs) (i + length xs) ys ≡ sets ws i (xs ++ ys)
+pub sets-append : (ws : List ℕ) (i : ℕ) (xs ys : List ℕ) → sets (sets ws i xs) (i + length xs) ys ≡ sets ws i (xs ++ ys)
 sets-append ws i [] ys = ap (λ (j : ℕ). sets ws j ys) (add-zero i)
 sets-append ws i (x ∷ xs) ys =
     ap (λ (j : ℕ). sets (sets (set ws i x) (suc i) xs) j ys) (add-suc i (length xs) ∙ sym (suc-add i (length xs)))

@@ -8,6 +8,7 @@ ghost use Rattle.tape.specs.Style.{inside};
 ghost use Rattle.tape.specs.Command.{deepest, mostLetters, width, codePoint, isLetter, isOpener, isScalar, added, faultOf, openerOf};
 ghost use Rattle.tape.specs.Reading.{byteAt, restAt, noScalar};
 use crate::Style;
+use crate::wide;
 
 const DEEPEST: usize = 16;
 
@@ -42,12 +43,6 @@ fn is_scalar(v: u32) -> bool
         return true;
     }
     if 0xdfff < v { v <= 0x10_ffff } else { false }
-}
-
-fn wide(x: u8) -> u32
-    ensures { λ r. ⌜ (r ≡ x) × (r < 256) ⌝ }
-{
-    x as u32
 }
 
 // The code point of the letter command at a place, one to three bytes.

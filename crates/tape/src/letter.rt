@@ -2,11 +2,12 @@
 // blue, alpha; and flags.
 ghost use mathlib.Core.Path.{_≡_};
 ghost use mathlib.Core.Bool.{cond};
-ghost use Prim.Native.Nat.{_+_, _*_, _≤_, _<_};
+ghost use Prim.Native.Nat.{_+_, _*_, _/_, _≤_, _<_};
 ghost use lib.ListN.{length};
 ghost use lib.Seq.{sets};
-ghost use Rattle.tape.specs.Stored.{flagsOf, cellOf};
+ghost use Rattle.tape.specs.Stored.{flagsOf, cellOf, letterByte, codeAt, odd};
 use crate::Style;
+use crate::wide;
 
 fn flag(on: bool, v: u8) -> u8
     ensures { λ r. ⌜ (r ≡ cond on v 0) × (r ≤ v) ⌝ }
@@ -35,4 +36,21 @@ pub fn put_letter(ws: &mut [u8], count: usize, code: u32, s: Style, start: bool)
     ws[i + 5] = s.blue;
     ws[i + 6] = s.alpha;
     ws[i + 7] = flags(s, start);
+}
+
+// The code point of a stored letter.
+pub fn code(ws: &[u8], number: usize) -> u32
+    requires { ⌜ 8 * number + 8 ≤ length (now ws) ⌝ }
+    ensures { λ r. ⌜ r ≡ codeAt (now (ws .entry)) number ⌝ }
+{
+    let i = 8 * number;
+    wide(ws[i]) * 65536 + wide(ws[i + 1]) * 256 + wide(ws[i + 2])
+}
+
+// Whether a run starts with a stored letter.
+pub fn starts_run(ws: &[u8], number: usize) -> bool
+    requires { ⌜ 8 * number + 8 ≤ length (now ws) ⌝ }
+    ensures { λ r. ⌜ r ≡ odd (letterByte (now (ws .entry)) number 7 / 4) ⌝ }
+{
+    ws[8 * number + 7] / 4 % 2 == 1
 }

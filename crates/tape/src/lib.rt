@@ -2,7 +2,7 @@
 // Carried over from `flatten_segments` and `walk` of src/compositor.rs of oxideav-subtitle; what a
 // tape means is in specs/. `ws` is the workspace throughout.
 mod command;
-mod letter;
+pub mod letter;
 mod reader;
 
 ghost use mathlib.Core.Path.{_≡_};
@@ -20,6 +20,12 @@ ghost use Rattle.tape.specs.Reading.{lastOf, wrote, Wrote, TapeRead};
 pub const MOST_BYTES: usize = 16384;
 
 pub const LEAST_ROOM: usize = 65536;
+
+fn wide(x: u8) -> u32
+    ensures { λ r. ⌜ (r ≡ x) × (r < 256) ⌝ }
+{
+    x as u32
+}
 
 // What a letter is drawn in. Its color is four bytes and no array, so that a state that holds it
 // can stand in an enum.

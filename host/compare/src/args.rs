@@ -1,23 +1,34 @@
 //! The words of the command line.
 
 pub const USAGE: &str = "\
-usage: compare [--pictures N] [--tapes N] [--seed S]   compare the proved crates with the original
+usage: compare [--pictures N] [--tapes N] [--cues N] [--seed S]
+                                compare the proved crates with the original
        compare specimen         write what the original draws for U+0000 to U+0100
        compare sample           write the tapes that the program `letters` reads
        compare sample-answers   write what the original makes of them
+       compare lines-sample     write the limits and tapes that the program `lines_sample` reads
+       compare lines-sample-answers
+                                write what the original makes of them
        compare speed            write how long both take, and the ratio";
 
 #[derive(Debug, PartialEq)]
 pub enum Command {
-    Compare {
-        pictures: u64,
-        tapes: u64,
-        seed: u64,
-    },
+    Compare(Extent),
     Specimen,
     Sample,
     SampleAnswers,
+    LinesSample,
+    LinesSampleAnswers,
     Speed,
+}
+
+/// How many random cases of each kind are compared, and the seed that makes them.
+#[derive(Clone, Copy, Debug, PartialEq)]
+pub struct Extent {
+    pub pictures: u64,
+    pub tapes: u64,
+    pub cues: u64,
+    pub seed: u64,
 }
 
 /// The command that the words ask for, or `None` where they are none.
@@ -26,22 +37,26 @@ pub fn parse(words: &[String]) -> Option<Command> {
         [word] if word == "specimen" => return Some(Command::Specimen),
         [word] if word == "sample" => return Some(Command::Sample),
         [word] if word == "sample-answers" => return Some(Command::SampleAnswers),
+        [word] if word == "lines-sample" => return Some(Command::LinesSample),
+        [word] if word == "lines-sample-answers" => return Some(Command::LinesSampleAnswers),
         [word] if word == "speed" => return Some(Command::Speed),
         _ => {}
     }
-    let (mut pictures, mut tapes, mut seed) = (200_000, 200_000, 1);
+    let mut extent = Extent {
+        pictures: 200_000,
+        tapes: 200_000,
+        cues: 200_000,
+        seed: 1,
+    };
     let (pairs, rest) = words.as_chunks::<2>();
     for [name, value] in pairs {
         match name.as_str() {
-            "--pictures" => pictures = value.parse().ok()?,
-            "--tapes" => tapes = value.parse().ok()?,
-            "--seed" => seed = value.parse().ok()?,
+            "--pictures" => extent.pictures = value.parse().ok()?,
+            "--tapes" => extent.tapes = value.parse().ok()?,
+            "--cues" => extent.cues = value.parse().ok()?,
+            "--seed" => extent.seed = value.parse().ok()?,
             _ => return None,
         }
     }
-    rest.is_empty().then_some(Command::Compare {
-        pictures,
-        tapes,
-        seed,
-    })
+    rest.is_empty().then_some(Command::Compare(extent))
 }

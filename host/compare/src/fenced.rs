@@ -3,6 +3,9 @@
 use crate::random::Random;
 use std::ops::Range;
 
+/// The bytes of a fence beside a workspace.
+const BESIDE: usize = 4096;
+
 pub struct Fenced {
     bytes: Vec<u8>,
     /// The bytes as they were before the last call.
@@ -30,6 +33,13 @@ impl Fenced {
         }
     }
 
+    /// A workspace of this many random bytes.
+    pub fn workspace(random: &mut Random, room: usize) -> Fenced {
+        let mut workspace = vec![0; room];
+        random.fill(&mut workspace);
+        Fenced::new(&workspace, BESIDE)
+    }
+
     /// Lends a call the bytes of `own`, which it may change, and `further` bytes after them, which
     /// it may not. The further bytes may reach into the fence.
     pub fn lend<T>(
@@ -45,6 +55,11 @@ impl Fenced {
         let kept =
             self.bytes[..from] == self.before[..from] && self.bytes[to..] == self.before[to..];
         Lent { answer, kept }
+    }
+
+    /// Whether the last call left every byte as it was, its own too.
+    pub fn unchanged(&self) -> bool {
+        self.bytes == self.before
     }
 
     pub fn inside(&self) -> &[u8] {

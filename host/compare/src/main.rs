@@ -2,12 +2,17 @@
 
 mod args;
 mod count;
+mod digest;
 mod fenced;
 mod font;
+mod hex;
 mod random;
+mod refusal;
 mod tape;
+mod timing;
+mod wrap;
 
-use args::{Command, USAGE};
+use args::{Command, Extent, USAGE};
 use reference::Original;
 use std::env;
 use std::ffi::OsString;
@@ -30,23 +35,26 @@ fn main() -> ExitCode {
         return ExitCode::from(2);
     };
     match command {
-        Command::Compare {
-            pictures,
-            tapes,
-            seed,
-        } => compare(&original, pictures, tapes, seed),
+        Command::Compare(extent) => compare(&original, extent),
         Command::Specimen => write(font::specimen(&original).as_bytes()),
         Command::Sample => write(&tape::sample::tapes()),
-        Command::Speed => write(tape::speed::table(&original).as_bytes()),
         Command::SampleAnswers => write(tape::sample::answers(&original).as_bytes()),
+        Command::LinesSample => write(&wrap::sample::entries()),
+        Command::LinesSampleAnswers => write(wrap::sample::answers(&original).as_bytes()),
+        Command::Speed => {
+            let tables = tape::speed::table(&original) + &wrap::speed::table(&original);
+            write(tables.as_bytes())
+        }
     }
 }
 
-fn compare(original: &Original, pictures: u64, tapes: u64, seed: u64) -> ExitCode {
+fn compare(original: &Original, extent: Extent) -> ExitCode {
+    let seed = extent.seed;
     println!("the original stands in {}", reference::LOOKED_IN);
     println!("seed {seed}");
-    let mut counts = font::compare(original, seed, pictures);
-    counts.extend(tape::compare(original, seed, tapes));
+    let mut counts = font::compare(original, seed, extent.pictures);
+    counts.extend(tape::compare(original, seed, extent.tapes));
+    counts.extend(wrap::compare(original, seed, extent.cues));
     let (mut passed, mut failed) = (0, 0);
     for count in &counts {
         count.show();

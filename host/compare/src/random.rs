@@ -33,6 +33,10 @@ impl Random {
         self.next().is_multiple_of(count)
     }
 
+    pub fn pick<T: Copy, const N: usize>(&mut self, from: &[T; N]) -> T {
+        from[self.within(0..=N as i64 - 1) as usize]
+    }
+
     pub fn byte(&mut self) -> u8 {
         self.next() as u8
     }

@@ -2,13 +2,50 @@
 // What follows is appended to the build's copy of the original file, whose text stands above as it
 // is: the way to its private functions.
 
-/// The runs that the original flattens segments to: text, bold, italic and color of each.
-pub fn flatten(
+/// A run's text, bold, italic and color.
+pub type Opened = (String, bool, bool, [u8; 4]);
+
+/// The runs that the original flattens segments to.
+pub fn flatten(segments: &[oxideav_core::Segment], color: [u8; 4]) -> Vec<Opened> {
+    open(flatten_segments(segments, RunStyle::default_with(color)))
+}
+
+/// The lines that the original wraps those runs to: the pieces of each, and its columns, which are
+/// its width where a cell has one.
+pub fn wrap(
     segments: &[oxideav_core::Segment],
     color: [u8; 4],
-) -> Vec<(String, bool, bool, [u8; 4])> {
-    flatten_segments(segments, RunStyle::default_with(color))
+    max_cols: usize,
+) -> Vec<(Vec<Opened>, u32)> {
+    flatten_and_wrap(segments, color, max_cols)
         .into_iter()
+        .map(|line| {
+            let columns = measure_line(&line, 1);
+            (open(line.pieces), columns)
+        })
+        .collect()
+}
+
+/// How many they are, with nothing done to them after wrapping.
+pub fn count_lines(
+    segments: &[oxideav_core::Segment],
+    color: [u8; 4],
+    max_cols: usize,
+) -> usize {
+    flatten_and_wrap(segments, color, max_cols).len()
+}
+
+fn flatten_and_wrap(
+    segments: &[oxideav_core::Segment],
+    color: [u8; 4],
+    max_cols: usize,
+) -> Vec<Line> {
+    let runs = flatten_segments(segments, RunStyle::default_with(color));
+    wrap_runs(&runs, max_cols)
+}
+
+fn open(runs: Vec<Run>) -> Vec<Opened> {
+    runs.into_iter()
         .map(|run| {
             let style = run.style;
             (run.text, style.bold, style.italic, style.color)

@@ -1,8 +1,8 @@
 //! What the comparison asks of the original, where it is at hand.
 
-use crate::Run;
 use crate::compositor;
 use crate::font::BitmapFont;
+use crate::{Line, Run};
 use oxideav_core::Segment;
 
 /// The original: its fonts, and the functions of its compositor. Only [`crate::original`] makes one.
@@ -70,14 +70,34 @@ impl Original {
 
     /// The runs of segments, merged, where the style around them has this color and no mark.
     pub fn flatten_segments(&self, segments: &[Segment], color: [u8; 4]) -> Vec<Run> {
-        compositor::flatten(segments, color)
+        runs(compositor::flatten(segments, color))
+    }
+
+    /// The lines of those runs, wrapped to this many columns.
+    pub fn wrap(&self, segments: &[Segment], color: [u8; 4], max_cols: usize) -> Vec<Line> {
+        compositor::wrap(segments, color, max_cols)
             .into_iter()
-            .map(|(text, bold, italic, color)| Run {
-                text,
-                bold,
-                italic,
-                color,
+            .map(|(pieces, columns)| Line {
+                pieces: runs(pieces),
+                columns: columns as usize,
             })
             .collect()
     }
+
+    /// How many lines there are: flattening and wrapping alone, for whoever takes the time.
+    pub fn count_lines(&self, segments: &[Segment], color: [u8; 4], max_cols: usize) -> usize {
+        compositor::count_lines(segments, color, max_cols)
+    }
+}
+
+fn runs(opened: Vec<compositor::Opened>) -> Vec<Run> {
+    opened
+        .into_iter()
+        .map(|(text, bold, italic, color)| Run {
+            text,
+            bold,
+            italic,
+            color,
+        })
+        .collect()
 }

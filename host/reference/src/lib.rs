@@ -33,3 +33,10 @@ pub struct Run {
     pub italic: bool,
     pub color: [u8; 4],
 }
+
+/// A line, as the original wraps runs to.
+#[derive(Clone, Debug, PartialEq)]
+pub struct Line {
+    pub pieces: Vec<Run>,
+    pub columns: usize,
+}

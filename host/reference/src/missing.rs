@@ -1,6 +1,6 @@
 //! What stands in the original's place where it is missing: a type that has no value.
 
-use crate::Run;
+use crate::{Line, Run};
 use oxideav_core::Segment;
 
 /// The original. There is none here, so no method of this type is ever called.
@@ -38,6 +38,16 @@ impl Original {
 
     /// The runs of segments, where the original is at hand.
     pub fn flatten_segments(&self, _segments: &[Segment], _color: [u8; 4]) -> Vec<Run> {
+        match *self {}
+    }
+
+    /// The lines of segments, where the original is at hand.
+    pub fn wrap(&self, _segments: &[Segment], _color: [u8; 4], _max_cols: usize) -> Vec<Line> {
+        match *self {}
+    }
+
+    /// How many lines there are, where the original is at hand.
+    pub fn count_lines(&self, _segments: &[Segment], _color: [u8; 4], _max_cols: usize) -> usize {
         match *self {}
     }
 }

@@ -1,7 +1,4 @@
-use mathlib.Core.Path.{subst}
 use native.Mathlib.Omega.{arith}
-use Rattle.tape.specs.declared.Answer.{Answer}
-use Rattle.tape.specs.Reading.{TapeRead}
 use Rattle.tape.proofs.Answers.{Accepted, letters-are}
 use borrow.Author.Needs.{needs}
 use Rattle.letters.proofs.print_tape.Statement.{statement}
@@ -11,13 +8,7 @@ use Rattle.letters.proofs.print_tape.Tie as tie
 letters : (c : tie.After-known-told) → let q = c .before .before .before .before .before in
     let a = q .before .before .before .before .before .args in
     Accepted (a .tape .now) (a .workspace .now) (q .read-tape .last .1 .0) (q .before .default-with .result) (c .before .count .given .0 .0)
-letters c =
-    let q = c .before .before .before .before .before in
-    let a = q .before .before .before .before .before .args in
-    letters-are
-    (subst (λ (r : Answer). TapeRead (a .tape .now) (a .workspace .now) (q .read-tape .last .1 .0) (q .before .default-with .result) r)
-    (c .before .count .given .1)
-    (q .read-tape .ensures))
+letters c = letters-are (c .before .before .before .before .before .read-tape .ensures) (c .before .count .given .1)
 
 default-with-requires : tie.Need-default-with-requires
 default-with-requires c κs = search needs
@@ -51,8 +42,8 @@ print-letters-requires c κs = search needs
 enum-known-number : tie.Need-enum-known-number
 enum-known-number c = search needs
 
-print-refusal-requires : tie.Need-print-refusal-requires
-print-refusal-requires c κs = search needs
+write-refusal-requires : tie.Need-write-refusal-requires
+write-refusal-requires c κs = search needs
 
 same-length : tie.Need-same-length
 same-length c = search needs
@@ -79,7 +70,7 @@ print-tape-spec =
     part-print-letters-end
     print-letters-requires
     enum-known-number
-    print-refusal-requires
+    write-refusal-requires
     same-length
     returns
     same-length-2

@@ -7,10 +7,10 @@ use Rattle.letters.proofs.replay.Statement.{statement}
 use Rattle.letters.proofs.replay.Tie as tie
 
 abbrev Inv-loop : tie.InvT-loop
-Inv-loop sample workspace₀ at₀ workspace at = (at ≤ length sample) × (length workspace ≡ length workspace₀)
+Inv-loop tapes workspace₀ at₀ workspace at = (at ≤ length tapes) × (length workspace ≡ length workspace₀)
 
 abbrev μ-loop : tie.MeasureT-loop
-μ-loop sample workspace₀ at₀ workspace at = length sample - at
+μ-loop tapes workspace₀ at₀ workspace at = length tapes - at
 
 loop-holds : tie.Need-loop-holds Inv-loop μ-loop
 loop-holds c = (omega arith, refl)

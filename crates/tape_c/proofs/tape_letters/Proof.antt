@@ -1,7 +1,5 @@
-use mathlib.Core.Path.{_≡_, subst}
 use native.Mathlib.Omega.{arith}
 use borrow.Author.Needs.{needs}
-use Rattle.tape.specs.declared.Answer.{Answer}
 use Rattle.tape.specs.Style.{defaultWith}
 use Rattle.tape.specs.Reading.{TapeRead}
 use Rattle.tape.proofs.Answers.{letters-are, refusal-is}
@@ -9,13 +7,10 @@ use Rattle.tape_c.proofs.tape_letters.Statement.{statement}
 use Rattle.tape_c.proofs.tape_letters.Tie as tie
 
 -- the tape was read
-read : (c : tie.After-read-tape) {r : Answer} → c .read-tape .result ≡ r →
+read : (c : tie.After-read-tape) →
     let a = c .before .before .before .before .before .before .args in
-    TapeRead (a .tape .now) (a .workspace .now) (c .read-tape .last .1 .0) (defaultWith (a .color .now)) r
-read c e =
-    let a = c .before .before .before .before .before .before .args in
-    subst (λ (r : Answer). TapeRead (a .tape .now) (a .workspace .now) (c .read-tape .last .1 .0) (defaultWith (a .color .now)) r) e
-    (rw (← c .before .default-with .ensures) (c .read-tape .ensures))
+    TapeRead (a .tape .now) (a .workspace .now) (c .read-tape .last .1 .0) (defaultWith (a .color .now)) (c .read-tape .result)
+read c = rw (← c .before .default-with .ensures) (c .read-tape .ensures)
 
 default-with-requires : tie.Need-default-with-requires
 default-with-requires c κs = search needs
@@ -37,7 +32,7 @@ mul-result c = search needs
 
 add-result : tie.Need-add-result
 add-result c =
-    let r = refusal-is (read (c .before .before .before .before .before) (c .before .number .given .1)) in
+    let r = refusal-is (read (c .before .before .before .before .before)) (c .before .number .given .1) in
     let most = r .most in
     let near = r .near in
     omega arith
@@ -47,9 +42,8 @@ same-length c = search needs
 
 returns : tie.Need-returns
 returns c =
-    let q = c .before .before .before .before .before in
-    let r = read q (c .before .count .given .1) in
-    let l = letters-are r in
+    let r = read (c .before .before .before .before .before) in
+    let l = letters-are r (c .before .count .given .1) in
     record { answers = rw (l .means) (l .count); leaves = r .leaves }
 
 same-length-2 : tie.Need-same-length-2
@@ -57,9 +51,8 @@ same-length-2 c = search needs
 
 returns-2 : tie.Need-returns-2
 returns-2 c =
-    let q = c .before .before .before .before .before in
-    let r = read q (c .before .number .given .1) in
-    record { answers = rw (refusal-is r .means); leaves = r .leaves }
+    let r = read (c .before .before .before .before .before) in
+    record { answers = rw (refusal-is r (c .before .number .given .1) .means); leaves = r .leaves }
 
 pub tape-letters-spec : {M : Type 1} → statement M
 tape-letters-spec =

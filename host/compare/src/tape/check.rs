@@ -1,35 +1,26 @@
 //! One tape, read by the proved reader into a fenced workspace.
 
 use crate::fenced::{Fenced, Lent};
+use crate::hex::hex;
 use crate::random::Random;
+use crate::refusal::Refusal;
 use crate::tape::letters::Outcome;
-use crate::tape::proved::{self, Answer};
-use std::fmt::Write;
-
-/// The bytes of a fence beside the workspace.
-const FENCE: usize = 4096;
-/// How many bytes of a tape are shown.
-const SHOWN: usize = 120;
+use crate::tape::proved;
 
 /// Reads the tape into a workspace of `room` bytes and holds answer and workspace to `expected`:
 /// it begins with the letters and is as it was behind them, and after the refusals 10 and 11 it is
 /// as it was.
 pub fn check(tape: &[u8], color: [u8; 4], room: usize, expected: &Outcome) -> Result<(), String> {
-    let mut workspace = vec![0; room];
-    Random::new(0, tape.len() as u64).fill(&mut workspace);
-    let mut fenced = Fenced::new(&workspace, FENCE);
+    let mut fenced = Fenced::workspace(&mut Random::new(0, tape.len() as u64), room);
     let own = match expected {
-        Outcome::Letters(letters) => 8 * letters.len(),
-        Outcome::Refused { number: 10.., .. } => 0,
-        Outcome::Refused { .. } => room,
+        Ok(letters) => 8 * letters.len(),
+        Err(Refusal { number: 10.., .. }) => 0,
+        Err(_) => room,
     };
     let Lent { answer, kept } = fenced.lend(0..own, room - own, |workspace| {
         proved::read(tape, workspace, color)
     });
-    let due = match expected {
-        Outcome::Letters(letters) => Answer::Letters(letters.len()),
-        &Outcome::Refused { number, place } => Answer::Refused { number, place },
-    };
+    let due = expected.as_ref().map(Vec::len).map_err(|refusal| *refusal);
     let wrong = |what: String| {
         Err(format!(
             "{what}\n    color {color:02x?}, tape {}",
@@ -42,7 +33,7 @@ pub fn check(tape: &[u8], color: [u8; 4], room: usize, expected: &Outcome) -> Re
     if !kept {
         return wrong(format!("{answer:?} wrote outside its {own} bytes"));
     }
-    let Outcome::Letters(letters) = expected else {
+    let Ok(letters) = expected else {
         return Ok(());
     };
     let (found, _) = fenced.inside().as_chunks::<8>();
@@ -55,15 +46,4 @@ pub fn check(tape: &[u8], color: [u8; 4], room: usize, expected: &Outcome) -> Re
         }
     }
     Ok(())
-}
-
-fn hex(tape: &[u8]) -> String {
-    let mut text = String::new();
-    for byte in tape.iter().take(SHOWN) {
-        let _ = write!(text, "{byte:02x} ");
-    }
-    if tape.len() > SHOWN {
-        let _ = write!(text, ".. {} bytes", tape.len());
-    }
-    text
 }

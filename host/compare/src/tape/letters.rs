@@ -1,5 +1,6 @@
 //! Letters with their styles, and what a tape comes to.
 
+use crate::refusal::Refusal;
 use reference::Run;
 
 #[derive(Clone, Copy, Debug, PartialEq)]
@@ -17,11 +18,7 @@ pub struct Letter {
     pub start: bool,
 }
 
-#[derive(Clone, Debug, PartialEq)]
-pub enum Outcome {
-    Letters(Vec<Letter>),
-    Refused { number: u32, place: usize },
-}
+pub type Outcome = Result<Vec<Letter>, Refusal>;
 
 impl Letter {
     /// The eight bytes of a letter in the workspace.

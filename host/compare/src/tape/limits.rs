@@ -2,19 +2,18 @@
 
 use crate::count::Count;
 use crate::random::Random;
+use crate::refusal::Refusal;
 use crate::tape::check::check;
 use crate::tape::letters::Outcome;
 use crate::tape::segments::{DEEPEST, MOST_LETTERS};
-use crate::tape::{ROOM, flatten, written};
+use crate::tape::{ROOM, WHITE, flatten, written};
 use oxideav_core::Segment;
 use reference::Original;
-
-const WHITE: [u8; 4] = [255; 4];
 
 pub fn compare(original: &Original) -> Count {
     let mut count = Count::new("tapes at the limits");
     for (segments, bytes) in admitted() {
-        let expected = Outcome::Letters(flatten(original, &segments, WHITE));
+        let expected = Ok(flatten(original, &segments, WHITE));
         count.check(check(&bytes, WHITE, ROOM, &expected));
         count.check(check(&bytes, WHITE, ROOM + 1, &expected));
         for room in [0, 1, 8, ROOM / 2, ROOM - 1] {
@@ -28,11 +27,11 @@ pub fn compare(original: &Original) -> Count {
 }
 
 fn refused(number: u32, place: usize) -> Outcome {
-    Outcome::Refused { number, place }
+    Err(Refusal { number, place })
 }
 
 /// Segments, and their tape.
-fn admitted() -> Vec<(Vec<Segment>, Vec<u8>)> {
+pub fn admitted() -> Vec<(Vec<Segment>, Vec<u8>)> {
     let mut random = Random::new(0, 0);
     let mut cases = vec![(Vec::new(), Vec::new())];
     let mut add = |segments: Vec<Segment>| {
@@ -70,7 +69,7 @@ fn admitted() -> Vec<(Vec<Segment>, Vec<u8>)> {
 }
 
 /// A tape, and the number and place of its refusal.
-fn stopped() -> Vec<(Vec<u8>, u32, usize)> {
+pub fn stopped() -> Vec<(Vec<u8>, u32, usize)> {
     let mut cases = vec![
         (vec![0x06], 3, 1),
         (vec![0x00], 3, 0),

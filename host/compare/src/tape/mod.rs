@@ -2,26 +2,30 @@
 //! tapes of every kind, held to a reading of document 01 of its own.
 
 mod check;
-mod damage;
-mod letters;
-mod limits;
+pub mod damage;
+pub mod letters;
+pub mod limits;
 mod proved;
-mod reading;
+pub mod reading;
 pub mod sample;
-mod segments;
+pub mod segments;
 pub mod speed;
-mod written;
+pub mod written;
 
 use crate::count::Count;
 use crate::random::Random;
+use crate::refusal::Tally;
 use check::check;
-use letters::{Letter, Outcome};
+use letters::Letter;
 use oxideav_core::Segment;
 use reference::Original;
-use std::collections::BTreeMap;
 
+/// The most bytes of a tape.
+pub const MOST_BYTES: usize = 16_384;
 /// The bytes of a workspace.
-const ROOM: usize = 65_536;
+pub const ROOM: usize = 65_536;
+/// The color of the outer list, where a call takes none.
+pub const WHITE: [u8; 4] = [255; 4];
 /// Sets the damaged tapes apart from the whole ones of the same seed.
 const APART: u64 = 0xda_3a6e;
 
@@ -35,7 +39,7 @@ pub fn compare(original: &Original, seed: u64, tapes: u64) -> Vec<Count> {
 }
 
 /// The letters that the original makes of segments.
-fn flatten(original: &Original, segments: &[Segment], color: [u8; 4]) -> Vec<Letter> {
+pub fn flatten(original: &Original, segments: &[Segment], color: [u8; 4]) -> Vec<Letter> {
     letters::of_runs(&original.flatten_segments(segments, color))
 }
 
@@ -47,7 +51,7 @@ fn whole(original: &Original, seed: u64, tapes: u64) -> Count {
         let color = segments::color(&mut random);
         let segments = segments::random(&mut random);
         let tape = written::tape(&mut random, &segments);
-        let expected = Outcome::Letters(flatten(original, &segments, color));
+        let expected = Ok(flatten(original, &segments, color));
         count.check(
             check(&tape, color, ROOM, &expected)
                 .map_err(|found| format!("seed {seed}, tape {number}: {found}")),
@@ -59,22 +63,18 @@ fn whole(original: &Original, seed: u64, tapes: u64) -> Count {
 /// Tapes with something wrong, most of them. Shows how many were due which refusal.
 fn damaged(seed: u64, tapes: u64) -> Count {
     let mut count = Count::new("damaged tapes");
-    let mut admitted = 0;
-    let mut refused = BTreeMap::new();
+    let mut tally = Tally::default();
     for number in 0..tapes {
         let mut random = Random::new(seed ^ APART, number);
         let color = segments::color(&mut random);
         let tape = damage::tape(&mut random);
         let expected = reading::read(&tape, color);
-        match expected {
-            Outcome::Letters(_) => admitted += 1,
-            Outcome::Refused { number, .. } => *refused.entry(number).or_insert(0) += 1,
-        }
+        tally.add(&expected);
         count.check(
             check(&tape, color, ROOM, &expected)
                 .map_err(|found| format!("seed {seed}, damaged tape {number}: {found}")),
         );
     }
-    println!("damaged tapes: {admitted} admitted, refused by number {refused:?}");
+    println!("damaged tapes: {tally}");
     count
 }

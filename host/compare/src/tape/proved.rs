@@ -1,6 +1,8 @@
 //! The proved reader: the function of `libtape_c.a`.
 #![allow(unsafe_code)]
 
+use crate::refusal::{self, Refusal};
+
 unsafe extern "C" {
     fn tape_letters(
         tape: *const u8,
@@ -11,18 +13,9 @@ unsafe extern "C" {
     ) -> u64;
 }
 
-#[derive(Debug, PartialEq)]
-pub enum Answer {
-    /// How many letters the workspace begins with.
-    Letters(usize),
-    Refused {
-        number: u32,
-        place: usize,
-    },
-}
-
-/// Reads a tape into a workspace; `color` is that of the tape's outer list.
-pub fn read(tape: &[u8], workspace: &mut [u8], color: [u8; 4]) -> Answer {
+/// Reads a tape into a workspace and answers how many letters it then begins with; `color` is that
+/// of the tape's outer list.
+pub fn read(tape: &[u8], workspace: &mut [u8], color: [u8; 4]) -> Result<usize, Refusal> {
     // Safety: each pointer and length are those of one slice, lent for the call alone, and `color`
     // has the four bytes that are read. Every tape and every length is allowed.
     let answer = unsafe {
@@ -34,9 +27,5 @@ pub fn read(tape: &[u8], workspace: &mut [u8], color: [u8; 4]) -> Answer {
             color.as_ptr(),
         )
     };
-    let low = answer as u32 as usize;
-    match (answer >> 32) as u32 {
-        0 => Answer::Letters(low),
-        number => Answer::Refused { number, place: low },
-    }
+    refusal::halves(answer)
 }

@@ -1,15 +1,10 @@
 //! A reading of document 01, written for the comparison alone: what any bytes mean. Where they are
 //! refused the original says nothing, and this says what is due.
 
-use crate::tape::letters::{self, Letter, Outcome, Style};
+use crate::refusal::Refusal;
+use crate::tape::MOST_BYTES;
+use crate::tape::letters::{self, Outcome, Style};
 use reference::Run;
-
-const MOST_BYTES: usize = 16_384;
-
-struct Refusal {
-    number: u32,
-    place: usize,
-}
 
 struct Reader<'a> {
     tape: &'a [u8],
@@ -21,10 +16,10 @@ struct Reader<'a> {
 /// What a tape comes to in a workspace that is large enough.
 pub fn read(tape: &[u8], color: [u8; 4]) -> Outcome {
     if tape.len() > MOST_BYTES {
-        return Outcome::Refused {
+        return Err(Refusal {
             number: 10,
             place: 0,
-        };
+        });
     }
     let mut reader = Reader {
         tape,
@@ -37,10 +32,8 @@ pub fn read(tape: &[u8], color: [u8; 4]) -> Outcome {
         bold: false,
         italic: false,
     };
-    match reader.list(style, 0) {
-        Ok(()) => Outcome::Letters(reader.letters()),
-        Err(Refusal { number, place }) => Outcome::Refused { number, place },
-    }
+    reader.list(style, 0)?;
+    Ok(letters::of_runs(&reader.runs))
 }
 
 impl<'a> Reader<'a> {
@@ -165,9 +158,5 @@ impl<'a> Reader<'a> {
             number: 3,
             place: self.tape.len(),
         }
-    }
-
-    fn letters(&self) -> Vec<Letter> {
-        letters::of_runs(&self.runs)
     }
 }

@@ -19,8 +19,8 @@ const LETTERS: [u32; 20] = [
 ];
 
 pub fn color(random: &mut Random) -> [u8; 4] {
-    let [red, green, blue] = pick(random, &COLORS);
-    [red, green, blue, pick(random, &ALPHAS)]
+    let [red, green, blue] = random.pick(&COLORS);
+    [red, green, blue, random.pick(&ALPHAS)]
 }
 
 /// What is left to spend.
@@ -39,6 +39,16 @@ pub fn random(random: &mut Random) -> Vec<Segment> {
     };
     let depth = if random.one_in(8) { DEEPEST } else { 4 };
     list(random, depth, &mut Left { letters, segments })
+}
+
+/// A text, or a break, for each letter, which is what a tape's commands stand for.
+pub fn each_letter(text: &str) -> Vec<Segment> {
+    text.chars()
+        .map(|ch| match ch {
+            '\n' => Segment::LineBreak,
+            _ => Segment::Text(ch.to_string()),
+        })
+        .collect()
 }
 
 fn list(random: &mut Random, depth: usize, left: &mut Left) -> Vec<Segment> {
@@ -83,6 +93,11 @@ fn opener(random: &mut Random, depth: usize, left: &mut Left) -> Segment {
         };
     }
     let children = list(random, depth, left);
+    group(random, kind, children)
+}
+
+/// The segment of one of nine kinds that holds a list and no name.
+pub fn group(random: &mut Random, kind: i64, children: Vec<Segment>) -> Segment {
     match kind {
         0 => Segment::Font { children },
         1 => Segment::Bold(children),
@@ -92,7 +107,7 @@ fn opener(random: &mut Random, depth: usize, left: &mut Left) -> Segment {
         5 => Segment::Class { children },
         6 => Segment::Karaoke { children },
         _ => {
-            let [red, green, blue] = pick(random, &COLORS);
+            let [red, green, blue] = random.pick(&COLORS);
             Segment::Color {
                 rgb: (red, green, blue),
                 children,
@@ -111,13 +126,9 @@ fn text(random: &mut Random, left: &mut Left) -> String {
 /// A letter of the list, or any other.
 fn letter(random: &mut Random) -> char {
     let code = if random.one_in(2) {
-        pick(random, &LETTERS)
+        random.pick(&LETTERS)
     } else {
         random.within_u32(0..=0x10_ffff)
     };
     char::from_u32(code).unwrap_or('\u{fffd}')
-}
-
-fn pick<T: Copy, const N: usize>(random: &mut Random, from: &[T; N]) -> T {
-    from[random.within(0..=N as i64 - 1) as usize]
 }

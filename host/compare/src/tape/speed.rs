@@ -1,16 +1,11 @@
 //! How long the proved reader takes, beside the original on the same cues.
 
-use crate::tape::{ROOM, proved, written};
+use crate::tape::segments::each_letter;
+use crate::tape::{ROOM, WHITE, proved, written};
+use crate::timing;
 use oxideav_core::Segment;
 use reference::Original;
-use std::fmt::Write;
 use std::hint::black_box;
-use std::time::{Duration, Instant};
-
-const WHITE: [u8; 4] = [255; 4];
-/// Runs of which the best counts, and calls in each.
-const RUNS: u32 = 40;
-const CALLS: u32 = 20;
 
 /// A line for each cue: how long reading its tape takes, how long the original takes to flatten its
 /// segments, and the first over the second.
@@ -19,37 +14,13 @@ pub fn table(original: &Original) -> String {
     for (name, segments) in cues() {
         let tape = written::shortest(&segments);
         let mut workspace = vec![0; ROOM];
-        let ours = best(|| {
-            black_box(proved::read(black_box(&tape), &mut workspace, WHITE));
-        });
-        let theirs = best(|| {
-            black_box(original.flatten_segments(black_box(&segments), WHITE));
-        });
-        let ratio = ours.as_secs_f64() / theirs.as_secs_f64();
-        let _ = writeln!(
-            text,
-            "{name}: {:.2} / {:.2} µs = {ratio:.2}",
-            micros(ours),
-            micros(theirs)
+        text += &timing::line(
+            &name,
+            || proved::read(black_box(&tape), &mut workspace, WHITE),
+            || original.flatten_segments(black_box(&segments), WHITE),
         );
     }
     text
-}
-
-fn micros(time: Duration) -> f64 {
-    time.as_secs_f64() * 1e6
-}
-
-/// The time of one call, in the best of the runs.
-fn best(mut call: impl FnMut()) -> Duration {
-    let mut run = || {
-        let start = Instant::now();
-        for _ in 0..CALLS {
-            call();
-        }
-        start.elapsed() / CALLS
-    };
-    (0..RUNS).map(|_| run()).min().unwrap_or_default()
 }
 
 fn cues() -> Vec<(String, Vec<Segment>)> {
@@ -68,9 +39,8 @@ fn cues() -> Vec<(String, Vec<Segment>)> {
     cues
 }
 
-/// A text for each letter, which is what a tape's letter commands stand for.
 fn letters(count: usize) -> Vec<Segment> {
-    (0..count).map(|_| text(1)).collect()
+    each_letter(&"A".repeat(count))
 }
 
 fn text(count: usize) -> Segment {

@@ -1,0 +1,59 @@
+use native.Mathlib.Omega.{arith}
+use Rattle.wrap.proofs.Answers.{lines-are, refusal-is}
+use borrow.Author.Needs.{needs}
+use Rattle.captions.proofs.captions_wrap.Statement.{statement}
+use Rattle.captions.proofs.captions_wrap.Tie as tie
+
+wrap-requires : tie.Need-wrap-requires
+wrap-requires c κs = search needs
+
+enum-known-lines : tie.Need-enum-known-lines
+enum-known-lines c = search needs
+
+enum-known-number : tie.Need-enum-known-number
+enum-known-number c = search needs
+
+cast-result : tie.Need-cast-result
+cast-result c = search needs
+
+mul-result : tie.Need-mul-result
+mul-result c = search needs
+
+add-result : tie.Need-add-result
+add-result c =
+    let r = refusal-is (c .before .before .before .before .before .wrap .ensures) (c .before .number .given .1) in
+    let most = r .most in
+    let near = r .near in
+    omega arith
+
+same-length : tie.Need-same-length
+same-length c = search needs
+
+returns : tie.Need-returns
+returns c =
+    let w = c .before .before .before .before .before .wrap .ensures in
+    let a = lines-are w (c .before .lines .given .1) in
+    record { answers = rw (a .means) (a .count); leaves = w .leaves }
+
+same-length-2 : tie.Need-same-length-2
+same-length-2 c = search needs
+
+returns-2 : tie.Need-returns-2
+returns-2 c =
+    let w = c .before .before .before .before .before .wrap .ensures in
+    record { answers = rw (refusal-is w (c .before .number .given .1) .means); leaves = w .leaves }
+
+pub captions-wrap-spec : {M : Type 1} → statement M
+captions-wrap-spec =
+    tie.close
+    (tie.spec
+    wrap-requires
+    enum-known-lines
+    enum-known-number
+    cast-result
+    mul-result
+    add-result
+    same-length
+    returns
+    same-length-2
+    returns-2)

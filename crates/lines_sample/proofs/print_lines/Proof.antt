@@ -1,0 +1,68 @@
+use native.Mathlib.Omega.{arith}
+use Rattle.wrap.proofs.Answers.{lines-are}
+use borrow.Author.Needs.{needs}
+use Rattle.lines_sample.proofs.print_lines.Statement.{statement}
+use Rattle.lines_sample.proofs.print_lines.Tie as tie
+
+cast-wrap : tie.Need-cast-wrap
+cast-wrap c = search needs
+
+wrap-requires : tie.Need-wrap-requires
+wrap-requires c κs = search needs
+
+enum-known-lines : tie.Need-enum-known-lines
+enum-known-lines c = search needs
+
+default-with-requires : tie.Need-default-with-requires
+default-with-requires c κs = search needs
+
+read-tape-requires : tie.Need-read-tape-requires
+read-tape-requires c κs = search needs
+
+write-lines-requires : tie.Need-write-lines-requires
+write-lines-requires c κs =
+    let w = c .before .before .before .before .before .before .before .before .before .before .before .before .wrap in
+    let a = lines-are (w .ensures) (c .before .before .before .before .before .before .before .before .lines .given .1) in
+    let few = a .few in
+    let room = a .room in
+    let kept = w .kept .1 .0 in
+    (omega arith, omega arith)
+
+enum-known-number : tie.Need-enum-known-number
+enum-known-number c = search needs
+
+write-refusal-requires : tie.Need-write-refusal-requires
+write-refusal-requires c κs = search needs
+
+same-length : tie.Need-same-length
+same-length c = search needs
+
+same-length-2 : tie.Need-same-length-2
+same-length-2 c = search needs
+
+returns : tie.Need-returns
+returns c = search needs
+
+same-length-3 : tie.Need-same-length-3
+same-length-3 c = search needs
+
+returns-2 : tie.Need-returns-2
+returns-2 c = search needs
+
+pub print-lines-spec : {M : Type 1} → statement M
+print-lines-spec =
+    tie.close
+    (tie.spec
+    cast-wrap
+    wrap-requires
+    enum-known-lines
+    default-with-requires
+    read-tape-requires
+    write-lines-requires
+    enum-known-number
+    write-refusal-requires
+    same-length
+    same-length-2
+    returns
+    same-length-3
+    returns-2)

@@ -1,0 +1,19 @@
+-- Laws of lists, columns and bytes; the laws of the definition; what each step of the code comes to.
+pub mod Lists
+pub mod Cols
+pub mod Chunks
+pub mod Shown
+pub mod Narrow
+pub mod Bytes
+pub mod Onward
+pub mod Bounds
+pub mod Holding
+pub mod Steps
+pub mod Behind
+pub mod Breaking
+pub mod Choosing
+pub mod Passing
+pub mod Whole
+pub mod Few
+pub mod Answers
+pub mod Cases

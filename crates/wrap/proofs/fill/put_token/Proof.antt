@@ -1,0 +1,86 @@
+use mathlib.Core.Path.{_∙_, sym, subst}
+use mathlib.Core.Bool.{Bool}
+use native.Mathlib.Omega.{arith}
+use Rattle.wrap.specs.Filled.{Closed}
+use Rattle.wrap.proofs.Bounds.{ready-on}
+use Rattle.wrap.proofs.Choosing.{Put, token-none, token-sane, token-drops, token-places}
+use borrow.Author.Needs.{needs}
+use Rattle.wrap.proofs.fill.put_token.Statement.{statement}
+use Rattle.wrap.proofs.fill.put_token.Tie as tie
+
+-- the token and the line that it is put on
+put : (t : tie.After-is-blank-letter) →
+    let q = t .before .before .before .before in
+    let a = q .before .before .before .before .before .before .before .args in
+    let v = q .before .before .before .before .visible-cols in
+    Put (a .line) (a .ws .now) (a .i) (a .j) (a .limit) (v .result) (q .close-if .result) (q .close-if .last .1 .0) (t .is-blank-letter .result)
+put t =
+    let q = t .before .before .before .before in
+    let a = q .before .before .before .before .before .before .before .args in
+    record {
+      ready = q .before .before .before .before .before .before .before .pre;
+      wide = q .before .before .before .before .visible-cols .ensures .1;
+      some = q .before .before .before .if1 .left;
+      next =
+          subst (λ (b : Bool). Closed b (a .line) (a .ws .now) (q .close-if .result) (q .close-if .last .1 .0)) (q .before .passes .ensures)
+          (q .close-if .ensures);
+      kind = t .is-blank-letter .ensures;
+    }
+
+visible-cols-requires : tie.Need-visible-cols-requires
+visible-cols-requires c κs = search needs
+
+same-length : tie.Need-same-length
+same-length c = search needs
+
+returns : tie.Need-returns
+returns c = token-none _ _ _ _ _ _ (c .before .before .before .before .pre) (c .before .visible-cols .ensures .1) (c .if1 .taken)
+
+passes-requires : tie.Need-passes-requires
+passes-requires c κs = search needs
+
+close-if-requires : tie.Need-close-if-requires
+close-if-requires c κs = search needs
+
+is-blank-letter-requires : tie.Need-is-blank-letter-requires
+is-blank-letter-requires c κs = search needs
+
+drops-requires : tie.Need-drops-requires
+drops-requires c κs = search needs
+
+same-length-2 : tie.Need-same-length-2
+same-length-2 c = search needs
+
+returns-2 : tie.Need-returns-2
+returns-2 c = token-drops (put (c .before .before)) (sym (c .before .drops .ensures) ∙ c .if2 .taken)
+
+place-requires : tie.Need-place-requires
+place-requires c κs =
+    let p = put (c .before .before .before) in
+    let q = c .before .before .before .before .before .before .before in
+    (ready-on (p .ready) _ _ (p .ready .some) (omega arith) (token-sane p) (q .close-if .kept .1 .0), q .before .before .before .before .visible-cols .ensures .0)
+
+same-length-3 : tie.Need-same-length-3
+same-length-3 c = search needs
+
+returns-3 : tie.Need-returns-3
+returns-3 c =
+    let e = c .before .before .before .before in
+    token-places (put (e .before .before)) (sym (e .before .drops .ensures) ∙ e .if2 .left) (c .before .before .place .ensures)
+
+pub put-token-spec : {M : Type 1} → statement M
+put-token-spec =
+    tie.close
+    (tie.spec
+    visible-cols-requires
+    same-length
+    returns
+    passes-requires
+    close-if-requires
+    is-blank-letter-requires
+    drops-requires
+    same-length-2
+    returns-2
+    place-requires
+    same-length-3
+    returns-3)

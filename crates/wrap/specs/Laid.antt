@@ -1,0 +1,40 @@
+-- Promises: how lines lie in the workspace, behind the letters. No reader of the deposit needs this file.
+use mathlib.Core.Path.{_≡_}
+use mathlib.Core.List.{List, flatten}
+use Prim.Native.Nat.{ℕ, _+_, _*_, _≤_, _<_}
+use lib.ListN.{length, getD}
+use lib.Seq.{slice}
+use Rattle.tape.specs.Command.{mostLetters}
+use Rattle.tape.specs.Runs.{Letter}
+use Rattle.tape.specs.Stored.{letterAt}
+use Rattle.wrap.specs.declared.Lines.{Lines}
+use Rattle.wrap.specs.Lines.{Line, letterOf, wrapRuns}
+use Rattle.wrap.specs.Wrap.{twos, lineTable}
+
+-- where the numbers of the letters on lines begin, two bytes each, and the table of lines, four bytes each
+abbrev pub numbersFrom : ℕ
+numbersFrom = 32768
+
+abbrev pub tableFrom : ℕ
+tableFrom = 40960
+
+-- read back: a number in two bytes
+abbrev pub twoAt : List ℕ → ℕ → ℕ
+twoAt ws at = getD ws at 0 * 256 + getD ws (at + 1) 0
+
+-- the workspace holds these letters
+pub record Holds (ls : List Letter) (ws : List ℕ) : Type 0 where
+  pub few : length ls ≤ mostLetters
+  pub letter : (k : ℕ) → k < length ls → letterOf ls k ≡ letterAt ws k
+
+-- it holds their numbers on these lines, and the table
+pub record HoldsLines (ls : List Letter) (lines : List Line) (ws : List ℕ) : Type 0 where
+  pub numbers : slice numbersFrom (numbersFrom + 2 * length (flatten lines)) ws ≡ twos (flatten lines)
+  pub table : slice tableFrom (tableFrom + 4 * length lines) ws ≡ lineTable ls lines
+
+-- the letters were wrapped: the workspace holds them and their lines, of which `made` tells how many there are, and letters on them
+pub record Laid (ls : List Letter) (limit : ℕ) (made : Lines) (ws : List ℕ) : Type 0 where
+  pub letters : Holds ls ws
+  pub lines : HoldsLines ls (wrapRuns ls limit) ws
+  pub count : made .lines ≡ length (wrapRuns ls limit)
+  pub onLines : made .letters ≡ length (flatten (wrapRuns ls limit))
