@@ -3,18 +3,26 @@
 use std::hint::black_box;
 use std::time::{Duration, Instant};
 
-/// Runs of which the best counts, and calls in each.
-const RUNS: u32 = 40;
+/// Runs of each, in turn, of which the best counts, and calls in a run.
+const RUNS: u32 = 100;
 const CALLS: u32 = 20;
 
 /// A line of a table: how long each call takes, and the first over the second.
-pub fn line<T, U>(name: &str, ours: impl FnMut() -> T, theirs: impl FnMut() -> U) -> String {
-    let (ours, theirs) = (best(ours), best(theirs));
+pub fn line<T, U>(
+    name: &str,
+    mut ours: impl FnMut() -> T,
+    mut theirs: impl FnMut() -> U,
+) -> String {
+    let (mut our_best, mut their_best) = (Duration::MAX, Duration::MAX);
+    for _ in 0..RUNS {
+        our_best = our_best.min(run(&mut ours));
+        their_best = their_best.min(run(&mut theirs));
+    }
     format!(
         "{name}: {:.2} / {:.2} µs = {:.2}\n",
-        micros(ours),
-        micros(theirs),
-        ours.as_secs_f64() / theirs.as_secs_f64()
+        micros(our_best),
+        micros(their_best),
+        our_best.as_secs_f64() / their_best.as_secs_f64()
     )
 }
 
@@ -22,14 +30,11 @@ fn micros(time: Duration) -> f64 {
     time.as_secs_f64() * 1e6
 }
 
-/// The time of one call, in the best of the runs.
-fn best<T>(mut call: impl FnMut() -> T) -> Duration {
-    let mut run = || {
-        let start = Instant::now();
-        for _ in 0..CALLS {
-            black_box(call());
-        }
-        start.elapsed() / CALLS
-    };
-    (0..RUNS).map(|_| run()).min().unwrap_or_default()
+/// The time of one call in a run.
+fn run<T>(call: &mut impl FnMut() -> T) -> Duration {
+    let start = Instant::now();
+    for _ in 0..CALLS {
+        black_box(call());
+    }
+    start.elapsed() / CALLS
 }
