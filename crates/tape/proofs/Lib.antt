@@ -6,6 +6,7 @@ pub mod Styles
 pub mod Stores
 pub mod Went
 pub mod Leaves
+pub mod Short
 pub mod Marked
 pub mod Bounds
 pub mod Whole

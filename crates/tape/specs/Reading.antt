@@ -88,6 +88,12 @@ pub record Leaf (tape ws : List ℕ) (st : State) : Type 0 where
   pub few : st .count + added false (byteOf tape st) ≤ mostLetters
   pub space : 8 * mostLetters ≤ length ws
 
+-- a whole letter of one byte at a place, after so many letters that it has room
+pub record ShortLetter (tape : List ℕ) (at count : ℕ) : Type 0 where
+  pub letter : byteAt tape at ≡ 2
+  pub whole : at + 1 < length tape
+  pub room : count < mostLetters
+
 -- ---- what is told
 
 -- what the tape means from a place on, after n letters
@@ -129,6 +135,10 @@ Onward a (Refused number place) = Unit
 abbrev pub ToTheEnd : List ℕ → Bool → ℕ → Step → Type 0
 ToTheEnd tape name depth (Done b) = name ≡ false → depth ≡ 0 → length tape ≤ b .at
 ToTheEnd tape name depth (Refused number place) = Unit
+
+-- letters were read, in whatever list or name
+abbrev pub LettersRead : List ℕ → List ℕ → List ℕ → State → Style → State → Type 0
+LettersRead tape ws ws' a s b = (name : Bool) (depth : ℕ) → Went tape ws ws' depth (within s name) (within s name) a b
 
 -- a leaf, a segment, and a list or a name were read
 abbrev pub LeafRead : List ℕ → List ℕ → List ℕ → State → Style → State → Type 0

@@ -6,7 +6,7 @@ ghost use lib.ListN.{length};
 ghost use lib.Dec.{eqb};
 ghost use Rattle.tape.specs.Style.{inside};
 ghost use Rattle.tape.specs.Command.{deepest, mostLetters, width, codePoint, isLetter, isOpener, isScalar, added, faultOf, openerOf};
-ghost use Rattle.tape.specs.Reading.{byteAt, restAt, noScalar};
+ghost use Rattle.tape.specs.Reading.{byteAt, restAt, noScalar, ShortLetter};
 use crate::Style;
 use crate::wide;
 
@@ -154,6 +154,20 @@ pub fn fault(tape: &[u8], at: usize, count: usize, name: bool, depth: usize) -> 
         return 3;
     }
     0
+}
+
+// Whether the command at a place is a letter of one byte, and has room.
+pub fn is_short_letter(tape: &[u8], at: usize, count: usize) -> bool
+    requires { ⌜ at < length (now tape) ⌝ }
+    ensures { λ r. ⌜ (r ≡ true → ShortLetter (now (tape .entry)) at count) ⌝ }
+{
+    if tape[at] != 0x02 {
+        return false;
+    }
+    if tape.len() - at < 2 {
+        return false;
+    }
+    count < MOST_LETTERS
 }
 
 // The style inside a list that the command at a place opens.

@@ -1,11 +1,12 @@
 // The reader's parts: a list is read by reading segments, and a segment by reading its list.
 ghost use Prim.Native.Nat.{_≤_, _<_};
 ghost use Rattle.tape.specs.Command.{deepest};
-ghost use Rattle.tape.specs.Reading.{byteOf, Ready, Sound, Leaf, LeafRead, SegmentRead, ListRead};
+ghost use Rattle.tape.specs.Reading.{byteOf, Ready, Sound, Leaf, LeafRead, LettersRead, SegmentRead, ListRead};
 use crate::State;
 use crate::Step;
 use crate::Style;
 use crate::command;
+use crate::wide;
 
 // A text, a break or a time mark.
 fn read_leaf(tape: &[u8], ws: &mut [u8], st: State, style: Style) -> State
@@ -25,6 +26,23 @@ fn read_leaf(tape: &[u8], ws: &mut [u8], st: State, style: Style) -> State
         return st.onto(next);
     }
     st.put(ws, style, command::code_point(tape, at), next)
+}
+
+// Letters of one byte, as many as follow. Most commands are such letters: they have no fault, and
+// behind the first of them no run starts, which this loop lets the compiler see.
+fn read_letters(tape: &[u8], ws: &mut [u8], st: State, style: Style) -> State
+    requires { ⌜ Ready (now tape) (now ws) st ⌝ }
+    ensures { λ r. ⌜ LettersRead (now (tape .entry)) (now (ws .entry)) (now (ws .exit)) st style r ⌝ }
+{
+    let mut s = st;
+    while s.at < tape.len() {
+        let at = s.at;
+        if !command::is_short_letter(tape, at, s.count) {
+            return s;
+        }
+        s = s.put(ws, style, wide(tape[at + 1]), at + 2);
+    }
+    s
 }
 
 // A list or a name up to its 00, or the outer list to the tape's end.
@@ -51,7 +69,7 @@ pub fn read_list(
         }
         match read_segment(tape, ws, s, style, name, depth) {
             Step::Done(after) => {
-                s = after;
+                s = read_letters(tape, ws, after, style);
             }
             Step::Refused(number, place) => {
                 return Step::Refused(number, place);

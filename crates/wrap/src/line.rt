@@ -67,6 +67,7 @@ impl Cursor {
         }
     }
 
+    // Closes the line where it is full.
     pub fn close_if(self, ws: &mut [u8], full: bool) -> Cursor
         requires { ⌜ Sane self mostLetters × (leastRoom ≤ length (now ws)) ⌝ }
         ensures { λ r. ⌜ Closed full self (now (ws .entry)) r (now (ws .exit)) ⌝ }

@@ -36,6 +36,7 @@ use Rattle.tape.proofs.command.is_outer.Reads as is-outer-reads
 use Rattle.tape.proofs.command.operand_width.Reads as operand-width-reads
 use Rattle.tape.proofs.command.style_inside.Reads as style-inside-reads
 use Rattle.tape.proofs.reader.read_leaf.Reads as read-leaf-reads
+use Rattle.tape.proofs.reader.read_letters.Reads as read-letters-reads
 use Rattle.tape.proofs.reader.+read_list+read_segment.{statement}
 use Rattle.tape.proofs.reader.+read_list+read_segment.Tie.{close}
 
@@ -72,6 +73,8 @@ list-claims t = (
   finish-reads.Learnt,
   read-segment-below t,
   read-segment.Post,
+  read-letters-reads.Asked,
+  read-letters-reads.Learnt,
   is-outer-reads.Asked,
   is-outer-reads.Learnt,
 )
@@ -196,17 +199,36 @@ read-one t c e =
     subst (λ (r : Step). SegmentRead (a .tape .now) (l .ws) (c .read-segment .last .1 .0) (a .name) (a .depth) (l .s) (a .style) r) e
     (c .read-segment .ensures)
 
+read-list-read-letters-requires : (t : ℕ) → of-list list.Need-read-letters-requires t
+read-list-read-letters-requires t c κs =
+    let q = c .before .before .before .before .before .before in
+    let w = read-one t q (c .before .before .after .given .1) .0 in
+    let same = q .read-segment .kept .1 .0 ∙ wrote-length (q .before .before .before .before .before .before .before .before .loop .inv .stored) in
+    let space = q .before .before .before .before .before .before .before .before .before .before .before .pre .1 .0 .space in
+    record { on = w .to; few = w .few; space = omega arith }
+
+-- and then letters
+letters : (t : ℕ) (c : of-list list.After-read-letters t) →
+    let q = c .before .before .before .before .before .before .before in
+    let a = q .before .before .before .before .before .before .before .before .before .before .before .args in
+    Went (a .tape .now) (q .read-segment .last .1 .0) (c .read-letters .last .1 .0) (a .depth) (within (a .style) (a .name)) (within (a .style) (a .name))
+    (c .before .before .before .after .given .0 .0) (c .read-letters .result)
+letters t c = let a = c .before .before .before .before .before .before .before .before .before .before .before .before .before .before .before .before .before .before .args in c .read-letters .ensures (a .name) (a .depth)
+
 read-list-loop-less : (t : ℕ) → of-list list.Need-loop-less t
 read-list-loop-less t c =
-    let q = c .before .before .before .before .before in
-    let on = read-one t q (c .before .after .given .1) .1 in
+    let p = c .before .before in
+    let q = p .before .before .before .before .before .before .before in
+    let one = read-one t q (p .before .before .before .after .given .1) .1 in
+    let more = letters t p .on in
     let h = q .before .before .before .before .before .before .if1 .taken in
     omega arith
 
 read-list-loop-again : (t : ℕ) → of-list list.Need-loop-again t
 read-list-loop-again t c =
-    let q = c .before .before .before .before .before in
-    went-then _ _ (q .before .before .before .before .before .before .before .before .loop .inv) (read-one t q (c .before .after .given .1) .0)
+    let p = c .before .before in
+    let q = p .before .before .before .before .before .before .before in
+    went-then _ _ (went-then _ _ (q .before .before .before .before .before .before .before .before .loop .inv) (read-one t q (p .before .before .before .after .given .1) .0)) (letters t p)
 
 read-list-enum-known-number : (t : ℕ) → of-list list.Need-enum-known-number t
 read-list-enum-known-number t c = search needs
@@ -479,6 +501,7 @@ pub +read-list+read-segment-spec : {M : Type 1} → statement M
     (read-list-returns-2 t)
     (read-list-read-segment-requires t)
     (read-list-enum-known-after t)
+    (read-list-read-letters-requires t)
     (read-list-loop-less t)
     (read-list-loop-again t)
     (read-list-enum-known-number t)
