@@ -28,17 +28,15 @@ short-clean name depth n rest h v few =
       nested = refl;
     }
 
-module _ (tape ws : List ℕ) (a : State) (short : ShortLetter tape (a .at) (a .count)) (byte : getD tape (a .at + 1) 0 < 256) (space : 8 * mostLetters ≤ length ws) where
+module _ (tape ws : List ℕ) (a : State) (short : ShortLetter tape (a .at) (a .count)) (byte : getD tape (a .at + 1) 0 < 256)
+    (space : 8 * mostLetters ≤ length ws) where
   sound : (name : Bool) (depth : ℕ) → Sound tape ws a name depth
   sound name depth =
       let whole = short .whole in
       let n = length-drop (a .at + 1) tape in
       let v = spells-1 tape (a .at) whole in
-      record {
-        inside = omega arith;
-        clear = rw (short .letter) (no-fault name depth (a .count) 2 (restOf tape a) (short-clean name depth (a .count) (restOf tape a) (omega arith) (omega arith) (short .room)));
-        space = space;
-      }
+      let clean = short-clean name depth (a .count) (restOf tape a) (omega arith) (omega arith) (short .room) in
+      record { inside = omega arith; clear = rw (short .letter) (no-fault name depth (a .count) 2 (restOf tape a) clean); space = space }
 
   is-text : commandOf (byteOf tape a) (restOf tape a) ≡ text (getD tape (a .at + 1) 0 ∷ [])
   unfolding commandOf isLetter

@@ -10,13 +10,13 @@ pub split : (a b : Bool) → (a && b) ≡ true → (a ≡ true) × (b ≡ true)
 split true b e = (refl, e)
 split false b e = let z : false ≡ true = e in (z, cc)
 
-beq-eq : (a b : Bool) → Bool·beq a b ≡ true → a ≡ b
+pub beq-eq : (a b : Bool) → Bool·beq a b ≡ true → a ≡ b
 beq-eq true true e = refl
 beq-eq true false e = sym e
 beq-eq false true e = e
 beq-eq false false e = refl
 
-beq-refl : (a : Bool) → Bool·beq a a ≡ true
+pub beq-refl : (a : Bool) → Bool·beq a a ≡ true
 beq-refl true = refl
 beq-refl false = refl
 

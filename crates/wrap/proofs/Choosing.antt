@@ -9,12 +9,12 @@ use lib.ListN.{length}
 use borrow.Author.Tests.{eq-eqb, ne-eqb, ltb-true}
 use Rattle.tape.specs.Runs.{Letter}
 use Rattle.tape.specs.Stored.{codeAt}
+use Rattle.tape.proofs.Styles.{split}
 use Rattle.wrap.specs.declared.line.Cursor.{Cursor}
 use Rattle.wrap.specs.Columns.{isBlank}
 use Rattle.wrap.specs.Lines.{Filling, visibleCols, isSpaceToken, close, closeIf, place, putToken}
 use Rattle.wrap.specs.Laid.{Holds}
 use Rattle.wrap.specs.Filled.{between, closed, Held, Sane, Ready, Closed, Turns, Wide, Even}
-use Rattle.wrap.proofs.Lists.{both}
 use Rattle.wrap.proofs.Bounds.{sane-on, sane-if}
 use Rattle.wrap.proofs.Steps.{code-there}
 use Rattle.wrap.proofs.Breaking.{Placed, line-columns}
@@ -68,7 +68,7 @@ module _ {c c1 : Cursor} {ws ws1 : List ℕ} {i j limit columns : ℕ} {space : 
   pub token-sane : Sane c1 i
   token-sane =
       rw (put .next .cursor)
-      (sane-if c i (put .ready .sane) (passes c ws i j limit columns) (λ p. ltb-true 0 (c .columns) (both _ _ p .0)))
+      (sane-if c i (put .ready .sane) (passes c ws i j limit columns) (λ p. ltb-true 0 (c .columns) (split _ _ p .0)))
 
   abbrev onto : Filling → Filling
   onto f = closeIf (passes c ws i j limit columns) f

@@ -8,9 +8,10 @@ use lib.Dec.{eqb, leb, ltb}
 use lib.ListN.{length, length-append, length-map}
 use borrow.Author.Tests.{ltb-true, leb-true}
 use Rattle.tape.specs.Runs.{Letter}
+use Rattle.tape.proofs.Styles.{split}
 use Rattle.wrap.specs.Columns.{isBreak}
 use Rattle.wrap.specs.Lines.{Line, Filling, upFrom, ontoFirst, codeOf, visibleCols, logicalLines, together, ontoToken, tokenise, isSpaceToken, chunks, hardBreak, noLines, close, closeIf, add, hasColumns, putChunk, putChunks, place, passes, putToken, putTokens, fill, filled, trimTrailingSpace, isEmptyLine, wrapRuns}
-use Rattle.wrap.proofs.Lists.{cases, both, last-short, length-up}
+use Rattle.wrap.proofs.Lists.{cases, last-short, length-up}
 use Rattle.wrap.proofs.Chunks.{chunks-all}
 use Rattle.wrap.proofs.Shown.{tokens-all}
 
@@ -110,7 +111,7 @@ module _ (ls : List Letter) where
     token-few f t p h few =
         let on = few-on f p (p + length t) (omega arith) few in
         let next : passes ls L f t ≡ true → Few (close f) p =
-        λ e. close-few f p (few .busy (ltb-true 0 _ (both _ _ e .0))) in
+        λ e. close-few f p (few .busy (ltb-true 0 _ (split _ _ e .0))) in
         cases (λ (g : Filling). Few g (p + length t)) (eqb (visibleCols ls t) 0) _ _ (λ _. on)
         (λ _. cases (λ (g : Filling). Few g (p + length t)) (isSpaceToken ls t && not (hasColumns ls L f)) _ _ (λ _. on)
         (λ _. cases (λ (g : Filling). Few g (p + length t)) (passes ls L f t) _ _

@@ -1,16 +1,17 @@
 -- Letters are passed a break or a token at a time.
 use mathlib.Core.Path.{_≡_, _∙_, refl, sym, ap, ap₂}
-use mathlib.Core.Bool.{Bool, true, false, _&&_, not, cond, Bool·beq, false≢true}
+use mathlib.Core.Bool.{Bool, true, false, _&&_, not, cond, Bool·beq}
 use mathlib.Core.List.{List, [], _∷_, _++_}
 use Prim.Native.Nat.{ℕ, suc, _+_, _≤_, _<_}
 use native.Mathlib.Omega.{arith}
 use lib.ListN.{length, take, drop}
 use borrow.Author.Tests.{not-true}
 use Rattle.tape.specs.Runs.{Letter}
+use Rattle.tape.proofs.Styles.{split, beq-eq, beq-refl}
 use Rattle.wrap.specs.Columns.{isBreak}
 use Rattle.wrap.specs.Lines.{Line, Filling, ontoFirst, letterOf, codeOf, blank, logicalLines, together, ontoToken, tokenise, isSpaceToken, close, putToken, putTokens, fill}
 use Rattle.wrap.specs.Filled.{between, goesOn, more, endOf, Even}
-use Rattle.wrap.proofs.Lists.{cases, both, between-none, between-first, take-between, drop-between}
+use Rattle.wrap.proofs.Lists.{cases, between-none, between-first, take-between, drop-between}
 
 first : List Line → Line
 first [] = []
@@ -19,16 +20,6 @@ first (l ∷ r) = l
 others : List Line → List Line
 others [] = []
 others (l ∷ r) = r
-
-beq-true : (a b : Bool) → Bool·beq a b ≡ true → b ≡ a
-beq-true true true e = refl
-beq-true true false e = absurd (false≢true e)
-beq-true false true e = absurd (false≢true e)
-beq-true false false e = refl
-
-beq-same : (b : Bool) → Bool·beq b b ≡ true
-beq-same true = refl
-beq-same false = refl
 
 module _ (ls : List Letter) where
   abbrev goes : Bool → ℕ → Bool
@@ -42,12 +33,12 @@ module _ (ls : List Letter) where
 
   goes-true : (b : Bool) (k : ℕ) → goes b k ≡ true → Goes b k
   goes-true b k e =
-      let p = both (not (isBreak (codeOf ls k))) (Bool·beq b (blank ls k) && not (letterOf ls k .start)) e in
-      let q = both (Bool·beq b (blank ls k)) (not (letterOf ls k .start)) (p .1) in
-      record { letter = not-true _ (p .0); kind = beq-true b (blank ls k) (q .0); mid = not-true _ (q .1) }
+      let p = split (not (isBreak (codeOf ls k))) (Bool·beq b (blank ls k) && not (letterOf ls k .start)) e in
+      let q = split (Bool·beq b (blank ls k)) (not (letterOf ls k .start)) (p .1) in
+      record { letter = not-true _ (p .0); kind = sym (beq-eq b (blank ls k) (q .0)); mid = not-true _ (q .1) }
 
   together-goes : (b : Bool) (k m : ℕ) → blank ls k ≡ b → Goes b m → together ls k m ≡ true
-  together-goes b k m e g = rw (e, g .kind, g .mid, beq-same b)
+  together-goes b k m e g = rw (e, g .kind, g .mid, beq-refl b)
 
   together-not : (b : Bool) (k m : ℕ) → blank ls k ≡ b → isBreak (codeOf ls m) ≡ false → goes b m ≡ false → together ls k m ≡ false
   together-not b k m e x g = rw (← e, x) at g

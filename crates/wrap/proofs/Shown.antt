@@ -8,9 +8,10 @@ use lib.Dec.{eqb, leb, ltb}
 use lib.ListN.{length}
 use borrow.Author.Tests.{eqb-true}
 use Rattle.tape.specs.Runs.{Letter}
+use Rattle.tape.proofs.Styles.{split}
 use Rattle.wrap.specs.Columns.{isSpace, isTab, isBlank, isBreak, isControl, isShown, columnsOf}
 use Rattle.wrap.specs.Lines.{Line, Filling, upFrom, keep, withoutLast, codeOf, blank, visibleCols, logicalLines, together, ontoToken, tokenise, isSpaceToken, hardBreak, noLines, close, closeIf, add, hasColumns, putChunk, putChunks, place, passes, putToken, putTokens, fill, filled, trimTrailingSpace, wrapRuns, shown}
-use Rattle.wrap.proofs.Lists.{cases, both, flatten-append, last-all}
+use Rattle.wrap.proofs.Lists.{cases, flatten-append, last-all}
 use Rattle.wrap.proofs.Chunks.{chunks-all, onto-all}
 
 -- ---- what is dropped is not shown
@@ -48,7 +49,7 @@ module _ (ls : List Letter) where
   none-space : (l : Line) → isSpaceToken ls l ≡ true → shown ls l ≡ []
   unfolding shown isSpaceToken
   none-space [] e = refl
-  none-space (k ∷ l) e = let h = both (blank ls k) (isSpaceToken ls l) e in rw (h .0) (none-space l (h .1))
+  none-space (k ∷ l) e = let h = split (blank ls k) (isSpaceToken ls l) e in rw (h .0) (none-space l (h .1))
 
   -- ---- all letters so far, line after line
 
@@ -120,7 +121,7 @@ module _ (ls : List Letter) where
     token-goes f t =
         cases (Goes f t) (eqb (visibleCols ls t) 0) _ _ (λ e. drops f f t refl (none-columns t (eqb-true _ _ e)))
         (λ _. cases (Goes f t) (isSpaceToken ls t && not (hasColumns ls L f)) _ _
-        (λ e. drops f f t refl (none-space t (both (isSpaceToken ls t) (not (hasColumns ls L f)) e .0)))
+        (λ e. drops f f t refl (none-space t (split (isSpaceToken ls t) (not (hasColumns ls L f)) e .0)))
         (λ _. cases (Goes f t) (passes ls L f t) _ _
         (λ _. cases (Goes f t) (isSpaceToken ls t) _ _
         (λ e. drops f (close f) t (close-laid f) (none-space t e))

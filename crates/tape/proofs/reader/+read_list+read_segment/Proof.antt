@@ -211,9 +211,12 @@ read-list-read-letters-requires t c κs =
 letters : (t : ℕ) (c : of-list list.After-read-letters t) →
     let q = c .before .before .before .before .before .before .before in
     let a = q .before .before .before .before .before .before .before .before .before .before .before .args in
-    Went (a .tape .now) (q .read-segment .last .1 .0) (c .read-letters .last .1 .0) (a .depth) (within (a .style) (a .name)) (within (a .style) (a .name))
+    let frames = within (a .style) (a .name) in
+    Went (a .tape .now) (q .read-segment .last .1 .0) (c .read-letters .last .1 .0) (a .depth) frames frames
     (c .before .before .before .after .given .0 .0) (c .read-letters .result)
-letters t c = let a = c .before .before .before .before .before .before .before .before .before .before .before .before .before .before .before .before .before .before .args in c .read-letters .ensures (a .name) (a .depth)
+letters t c =
+    let a = c .before .before .before .before .before .before .before .before .before .before .before .before .before .before .before .before .before .before .args in
+    c .read-letters .ensures (a .name) (a .depth)
 
 read-list-loop-less : (t : ℕ) → of-list list.Need-loop-less t
 read-list-loop-less t c =
@@ -228,7 +231,8 @@ read-list-loop-again : (t : ℕ) → of-list list.Need-loop-again t
 read-list-loop-again t c =
     let p = c .before .before in
     let q = p .before .before .before .before .before .before .before in
-    went-then _ _ (went-then _ _ (q .before .before .before .before .before .before .before .before .loop .inv) (read-one t q (p .before .before .before .after .given .1) .0)) (letters t p)
+    let l = q .before .before .before .before .before .before .before .before .loop in
+    went-then _ _ (went-then _ _ (l .inv) (read-one t q (p .before .before .before .after .given .1) .0)) (letters t p)
 
 read-list-enum-known-number : (t : ℕ) → of-list list.Need-enum-known-number t
 read-list-enum-known-number t c = search needs

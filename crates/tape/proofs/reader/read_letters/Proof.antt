@@ -34,7 +34,9 @@ returns : tie.Need-returns Inv-loop μ-loop
 returns c = c .before .before .before .before .loop .inv
 
 -- the letter at hand
-short : (c : tie.Else2 Inv-loop μ-loop) → let s = c .before .before .before .before .loop .s in ShortLetter (c .before .before .before .before .before .before .before .args .tape .now) (s .at) (s .count)
+short : (c : tie.Else2 Inv-loop μ-loop) →
+    let s = c .before .before .before .before .loop .s in
+    ShortLetter (c .before .before .before .before .before .before .before .args .tape .now) (s .at) (s .count)
 short c = c .before .is-short-letter .ensures (not-false _ (c .if2 .left))
 
 add-wide : tie.Need-add-wide Inv-loop μ-loop
@@ -63,7 +65,8 @@ loop-less : tie.Need-loop-less Inv-loop μ-loop
 loop-less c =
     let p = c .before .before in
     let whole = short (p .before .before .before .before) .whole in
-    let at : p .put .result .at ≡ p .before .before .before .before .before .before .before .before .loop .s .at + 2 = ap (λ (x : State). x .at) (p .put .ensures .state) in
+    let l = p .before .before .before .before .before .before .before .before .loop in
+    let at : p .put .result .at ≡ l .s .at + 2 = ap (λ (x : State). x .at) (p .put .ensures .state) in
     omega arith
 
 loop-again : tie.Need-loop-again Inv-loop μ-loop
