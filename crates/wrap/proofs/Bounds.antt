@@ -39,7 +39,7 @@ module _ (c : Cursor) (i : ℕ) (sane : Sane c i) where
   sane-break = after-close (i + 1) (omega arith) (omega arith)
 
   -- closed because it has columns
-  pub sane-close : 0 < c .columns → Sane (closed c) i
+  sane-close : 0 < c .columns → Sane (closed c) i
   sane-close h = after-close i (omega arith) (sane .busy h)
 
   pub sane-if : (b : Bool) → (b ≡ true → 0 < c .columns) → Sane (cond b (closed c) c) i

@@ -19,13 +19,13 @@ pub line-columns : {ls : List Letter} {f : Filling} {c : Cursor} {ws : List ℕ}
 line-columns held = ap (λ (x : Cursor). x .columns) (held .cursor)
 
 module _ (limit i j : ℕ) where
-  abbrev pub Chunk : Cursor → List ℕ → Cursor → List ℕ → Type 0
+  abbrev Chunk : Cursor → List ℕ → Cursor → List ℕ → Type 0
   Chunk = Turns Any (λ (ls : List Letter) (f : Filling). putChunk ls limit f (between i j)) j
 
   abbrev pub Chunks : Cursor → List ℕ → Cursor → List ℕ → Type 0
   Chunks = Turns Any (λ (ls : List Letter) (f : Filling). putChunks ls limit f (hardBreak limit (between i j))) j
 
-  abbrev pub Added : ℕ → Cursor → List ℕ → Cursor → List ℕ → Type 0
+  abbrev Added : ℕ → Cursor → List ℕ → Cursor → List ℕ → Type 0
   Added columns = Turns (Wide columns i j) (λ (ls : List Letter) (f : Filling). add f (between i j)) j
 
   abbrev pub Placed : ℕ → Cursor → List ℕ → Cursor → List ℕ → Type 0

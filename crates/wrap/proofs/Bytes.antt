@@ -146,7 +146,7 @@ slice-snoc ws a k h =
     ∙ ap (drop a) (take-suc ws (a + k) 0 h)
     ∙ drop-append-le a (take (a + k) ws) (getD ws (a + k) 0 ∷ []) (omega arith)
 
-pub length-part : (ws : List ℕ) (a k : ℕ) → a + k ≤ length ws → length (slice a (a + k) ws) ≡ k
+length-part : (ws : List ℕ) (a k : ℕ) → a + k ≤ length ws → length (slice a (a + k) ws) ≡ k
 length-part ws a k h = let e = length-slice a (a + k) ws h in omega arith
 
 pub move-none : (ws : List ℕ) (from to : ℕ) → ws ≡ sets ws to (slice from (from + 0) ws)

@@ -14,7 +14,7 @@ use Rattle.wrap.specs.declared.line.Cursor.{Cursor}
 use Rattle.wrap.specs.Columns.{isBlank}
 use Rattle.wrap.specs.Lines.{Filling, visibleCols, isSpaceToken, close, closeIf, place, putToken}
 use Rattle.wrap.specs.Laid.{Holds}
-use Rattle.wrap.specs.Filled.{between, closed, Held, Sane, Ready, Closed, Turns, Wide, Even}
+use Rattle.wrap.specs.Filled.{between, closed, Held, Sane, Ready, Closed, Turns, Wide, OneKind}
 use Rattle.wrap.proofs.Bounds.{sane-on, sane-if}
 use Rattle.wrap.proofs.Steps.{code-there}
 use Rattle.wrap.proofs.Breaking.{Placed, line-columns}
@@ -38,10 +38,10 @@ closed-columns ls false f = refl
 
 module _ (c : Cursor) (ws : List ℕ) (i j limit columns : ℕ) where
   abbrev Token : Cursor → List ℕ → Type 0
-  Token = Turns (Even i j) (λ (ls : List Letter) (f : Filling). putToken ls limit f (between i j)) j c ws
+  Token = Turns (OneKind i j) (λ (ls : List Letter) (f : Filling). putToken ls limit f (between i j)) j c ws
 
   -- what is known of a token's columns
-  abbrev pub Says : Type 0
+  abbrev Says : Type 0
   Says = (ls : List Letter) → j ≤ length ls → Holds ls ws → Wide columns i j ls
 
   -- rule 1
@@ -50,7 +50,7 @@ module _ (c : Cursor) (ws : List ℕ) (i j limit columns : ℕ) where
   token-none ready wide e =
       record {
         sane = let some = ready .some in sane-on c i (ready .sane) j (omega arith);
-        held = λ ls f n even held. rw (← wide ls n (held .letters), eq-eqb columns 0 e) held;
+        held = λ ls f n same held. rw (← wide ls n (held .letters), eq-eqb columns 0 e) held;
       }
 
   abbrev pub passes : Bool
@@ -73,13 +73,13 @@ module _ {c c1 : Cursor} {ws ws1 : List ℕ} {i j limit columns : ℕ} {space : 
   abbrev onto : Filling → Filling
   onto f = closeIf (passes c ws i j limit columns) f
 
-  chosen : (ls : List Letter) (f : Filling) → j ≤ length ls → Even i j ls → Held ls f c ws
+  chosen : (ls : List Letter) (f : Filling) → j ≤ length ls → OneKind i j ls → Held ls f c ws
       → putToken ls limit f (between i j) ≡ cond (space && not (ltb 0 (c1 .columns))) (onto f) (place ls limit (onto f) (between i j))
   unfolding putToken
-  chosen ls f n even held =
+  chosen ls f n same held =
       let from = put .ready .some in
       let on : Held ls (onto f) c1 ws1 = put .next .held ls f held in
-      let is : isSpaceToken ls (between i j) ≡ space = even ∙ ap isBlank (code-there (on .letters) i (omega arith)) ∙ sym (put .kind) in
+      let is : isSpaceToken ls (between i j) ≡ space = same ∙ ap isBlank (code-there (on .letters) i (omega arith)) ∙ sym (put .kind) in
       let h : Bool = ltb 0 (c .columns) in
       let p : Bool = passes c ws i j limit columns in
       let left : ltb 0 (c1 .columns) ≡ (not p && h) =
@@ -92,7 +92,7 @@ module _ {c c1 : Cursor} {ws ws1 : List ℕ} {i j limit columns : ℕ} {space : 
   token-drops d =
       record {
         sane = let from = put .ready .some in sane-on c1 i token-sane j (omega arith);
-        held = λ ls f n even held. rw (chosen ls f n even held, d) (put .next .held ls f held);
+        held = λ ls f n same held. rw (chosen ls f n same held, d) (put .next .held ls f held);
       }
 
   pub token-places : (space && not (ltb 0 (c1 .columns))) ≡ false → {c' : Cursor} {ws' : List ℕ}
@@ -100,6 +100,6 @@ module _ {c c1 : Cursor} {ws ws1 : List ℕ} {i j limit columns : ℕ} {space : 
   token-places d placed =
       record {
         sane = placed .sane;
-        held = λ ls f n even held.
-            rw (chosen ls f n even held, d) (placed .held ls (onto f) n (put .wide ls n (held .letters)) (put .next .held ls f held));
+        held = λ ls f n same held.
+            rw (chosen ls f n same held, d) (placed .held ls (onto f) n (put .wide ls n (held .letters)) (put .next .held ls f held));
       }

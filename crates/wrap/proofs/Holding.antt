@@ -1,7 +1,7 @@
 -- What the workspace and the cursor hold after a line is closed, and after letters are added to it.
 use mathlib.Core.Path.{_≡_, _∙_, refl, sym, ap, ap₂}
 use mathlib.Core.Bool.{Bool, true, false, cond}
-use mathlib.Core.List.{List, [], _∷_, _++_, map, flatten, append-assoc, append-nil}
+use mathlib.Core.List.{List, [], _∷_, _++_, flatten, append-assoc, append-nil, map-append}
 use Prim.Native.Nat.{ℕ, _+_, _*_, _-_, _≤_, _<_}
 use native.Mathlib.Omega.{arith}
 use lib.ListN.{length, take, length-append}
@@ -20,13 +20,9 @@ use Rattle.wrap.proofs.Lists.{flatten-append, last-front, last-none, la
 use Rattle.wrap.proofs.Cols.{cols-append}
 use Rattle.wrap.proofs.Bytes.{twos-append, length-twos, take-twos, getD-sets, slice-before, slice-after, slice-grow, slice-less, table-snoc}
 
-map-snoc : (f : Line → Line) (r : List Line) (l : Line) → map f (r ++ (l ∷ [])) ≡ map f r ++ (f l ∷ [])
-map-snoc f [] l = refl
-map-snoc f (m ∷ r) l = rw (map-snoc f r l)
-
 module _ (ls : List Letter) where
   -- stores behind the letters
-  pub holds-sets : (vs ws : List ℕ) (at : ℕ) → numbersFrom ≤ at → Holds ls ws → Holds ls (sets ws at vs)
+  holds-sets : (vs ws : List ℕ) (at : ℕ) → numbersFrom ≤ at → Holds ls ws → Holds ls (sets ws at vs)
   holds-sets vs ws at h held =
       let few = held .few in
       let byte : (k j : ℕ) → k < length ls → j < 8 → letterByte (sets ws at vs) k j ≡ letterByte ws k j =
@@ -72,7 +68,7 @@ module _ (ls : List Letter) where
     before = flatten (done ls f)
 
     close-done : done ls (close f) ≡ done ls f ++ (trim (f .line) ∷ [])
-    close-done = map-snoc trim (f .closed) (f .line)
+    close-done = map-append trim (f .closed) (f .line ∷ [])
 
     close-flat : flatten (done ls (close f)) ≡ before ++ trim (f .line)
     unfolding flatten

@@ -26,15 +26,25 @@ module _ {A : Type 0} (test : A → Bool) where
   keep-more x [] y ys = refl
   keep-more x (z ∷ xs) y ys = refl
 
+  -- of two lists: the end of both, where nothing of the second is left
+  pub last-none : (xs ys : List A) → withoutLast test ys ≡ [] → withoutLast test (xs ++ ys) ≡ withoutLast test xs
+  unfolding withoutLast
+  last-none [] ys e = e
+  last-none (x ∷ xs) ys e = ap (keep test x) (last-none xs ys e)
+
+  pub last-some : (xs ys : List A) (y : A) (zs : List A) → withoutLast test ys ≡ y ∷ zs → withoutLast test (xs ++ ys) ≡ xs ++ (y ∷ zs)
+  unfolding withoutLast
+  last-some [] ys y zs e = e
+  last-some (x ∷ xs) ys y zs e = ap (keep test x) (last-some xs ys y zs e) ∙ keep-more x xs y zs
+
+  -- one more at the end
   pub last-drop : (xs : List A) (y : A) → test y ≡ true → withoutLast test (xs ++ (y ∷ [])) ≡ withoutLast test xs
   unfolding withoutLast
-  last-drop [] y e = rw e
-  last-drop (x ∷ xs) y e = ap (keep test x) (last-drop xs y e)
+  last-drop xs y e = last-none xs (y ∷ []) (rw e)
 
   pub last-keep : (xs : List A) (y : A) → test y ≡ false → withoutLast test (xs ++ (y ∷ [])) ≡ xs ++ (y ∷ [])
   unfolding withoutLast
-  last-keep [] y e = rw e
-  last-keep (x ∷ xs) y e = ap (keep test x) (last-keep xs y e) ∙ keep-more x xs y []
+  last-keep xs y e = last-some xs (y ∷ []) y [] (rw e)
 
   -- what is left is the list's front
   keep-front : (x : A) (xs ys : List A) → take (length ys) xs ≡ ys → take (length (keep test x ys)) (x ∷ xs) ≡ keep test x ys
@@ -54,17 +64,6 @@ module _ {A : Type 0} (test : A → Bool) where
   unfolding withoutLast
   last-short [] = omega arith
   last-short (x ∷ xs) = keep-short x xs (withoutLast test xs) (last-short xs)
-
-  -- of two lists: the end of both, where nothing of the second is left
-  pub last-none : (xs ys : List A) → withoutLast test ys ≡ [] → withoutLast test (xs ++ ys) ≡ withoutLast test xs
-  unfolding withoutLast
-  last-none [] ys e = e
-  last-none (x ∷ xs) ys e = ap (keep test x) (last-none xs ys e)
-
-  pub last-some : (xs ys : List A) (y : A) (zs : List A) → withoutLast test ys ≡ y ∷ zs → withoutLast test (xs ++ ys) ≡ xs ++ (y ∷ zs)
-  unfolding withoutLast
-  last-some [] ys y zs e = e
-  last-some (x ∷ xs) ys y zs e = ap (keep test x) (last-some xs ys y zs e) ∙ keep-more x xs y zs
 
 -- empty lines have no letters
 keep-all : (l : Line) (ls : List Line) → flatten (keep isEmptyLine l ls) ≡ l ++ flatten ls

@@ -10,7 +10,7 @@ use Rattle.tape.specs.Runs.{Letter}
 use Rattle.tape.proofs.Styles.{split, beq-eq, beq-refl}
 use Rattle.wrap.specs.Columns.{isBreak}
 use Rattle.wrap.specs.Lines.{Line, Filling, ontoFirst, letterOf, codeOf, blank, logicalLines, together, ontoToken, tokenise, isSpaceToken, close, putToken, putTokens, fill}
-use Rattle.wrap.specs.Filled.{between, goesOn, more, endOf, Even}
+use Rattle.wrap.specs.Filled.{between, goesOn, more, endOf, OneKind}
 use Rattle.wrap.proofs.Lists.{cases, between-none, between-first, take-between, drop-between}
 
 first : List Line → Line
@@ -136,9 +136,9 @@ module _ (ls : List Letter) where
       by true g ih = rw (goes-true true k g .kind) ih
       by false g ih = refl
 
-  even : (k : ℕ) (ks : Line) → isSpaceToken ls (k ∷ take (more ls (blank ls k) ks) ks) ≡ blank ls k
+  kind-of-first : (k : ℕ) (ks : Line) → isSpaceToken ls (k ∷ take (more ls (blank ls k) ks) ks) ≡ blank ls k
   unfolding isSpaceToken
-  even k ks = by (blank ls k) refl
+  kind-of-first k ks = by (blank ls k) refl
     where
       by : (b : Bool) → blank ls k ≡ b → (blank ls k && isSpaceToken ls (take (more ls (blank ls k) ks) ks)) ≡ blank ls k
       by true e = rw (e, space-more ks)
@@ -186,8 +186,8 @@ module _ (ls : List Letter) where
           ∙ ap (λ (x : ℕ). i ∷ between (i + 1) x) found
           ∙ ap (λ (x : Line). i ∷ x) (sym (take-between (i + 1) m (length ls) (omega arith)))
 
-      pub go-even : Even i j ls
-      go-even = ap (isSpaceToken ls) span ∙ even i (left (i + 1))
+      pub go-kind : OneKind i j ls
+      go-kind = ap (isSpaceToken ls) span ∙ kind-of-first i (left (i + 1))
 
       pub go-token : (f : Filling) → isBreak (codeOf ls i) ≡ false → onward f (left i) ≡ onward (putToken ls L f (between i j)) (left j)
       go-token f e =

@@ -13,10 +13,10 @@ use Rattle.wrap.specs.declared.line.Cursor.{Cursor}
 use Rattle.wrap.specs.Lines.{Filling, visibleCols, noLines, close, putToken, filled, withoutLast}
 use Rattle.wrap.specs.Wrap.{twos, lineTable}
 use Rattle.wrap.specs.Laid.{numbersFrom, tableFrom, Holds}
-use Rattle.wrap.specs.Filled.{between, endOf, closed, Held, Sane, Closed, Turns, Even, Finished}
+use Rattle.wrap.specs.Filled.{between, endOf, closed, Held, Sane, Closed, Turns, OneKind, Finished}
 use Rattle.wrap.proofs.Bounds.{sane-break}
 use Rattle.wrap.proofs.Steps.{code-there}
-use Rattle.wrap.proofs.Onward.{onward, go-end, go-break, go-even, go-token}
+use Rattle.wrap.proofs.Onward.{onward, go-end, go-break, go-kind, go-token}
 
 abbrev pub start : Cursor
 start = record { lines = 0; start = 0; end = 0; kept = 0; columns = 0; «kept_columns» = 0 }
@@ -60,13 +60,13 @@ module _ (count limit : ℕ) (ws : List ℕ) where
 
     pub pass-token : i < count → (codeAt ws1 i ≡ 0x0a → ⊥) → (j : ℕ) → i < j → j ≤ count
         → ((ls : List Letter) → count ≡ length ls → Holds ls ws1 → j ≡ endOf ls i)
-        → Turns (Even i j) (λ (ls : List Letter) (f : Filling). putToken ls limit f (between i j)) j c ws1 c' ws2
+        → Turns (OneKind i j) (λ (ls : List Letter) (f : Filling). putToken ls limit f (between i j)) j c ws1 c' ws2
         → Sofar count limit ws j c' ws2
     pass-token h e j ij jn found turns ls n held =
         let u = sofar ls n held in
         let is = found ls n (u .1 .letters) in (
           putToken ls limit (u .0) (between i j),
-          turns .held ls (u .0) (omega arith) (go-even ls limit i j ij (omega arith) is) (u .1),
+          turns .held ls (u .0) (omega arith) (go-kind ls limit i j ij (omega arith) is) (u .1),
           u .2
               ∙ go-token ls limit i j ij (omega arith) is (u .0) (ne-eqb _ _ (λ z. e (sym (code-there (u .1 .letters) i (omega arith)) ∙ z))),
         )

@@ -114,9 +114,9 @@ Any ls = Unit
 abbrev pub Wide : ℕ → ℕ → ℕ → List Letter → Type 0
 Wide columns i j ls = columns ≡ visibleCols ls (between i j)
 
--- they are all of one kind
-abbrev pub Even : ℕ → ℕ → List Letter → Type 0
-Even i j ls = isSpaceToken ls (between i j) ≡ blank ls i
+-- these letters are all of one kind, that of the first
+abbrev pub OneKind : ℕ → ℕ → List Letter → Type 0
+OneKind i j ls = isSpaceToken ls (between i j) ≡ blank ls i
 
 -- all letters have been passed, and every line is closed
 pub record Finished (count limit : ℕ) (ws : List ℕ) (c : Cursor) (ws' : List ℕ) : Type 0 where

@@ -7,7 +7,7 @@ ghost use Rattle.tape.specs.Runs.{Letter};
 ghost use Rattle.tape.specs.Tape.{leastRoom};
 ghost use Rattle.wrap.specs.Lines.{Filling, hardBreak, putChunk, putChunks, place as placed, putToken};
 ghost use Rattle.wrap.specs.Wrap.{mostColumns};
-ghost use Rattle.wrap.specs.Filled.{between, Ready, Turns, Any, Wide, Even, Finished};
+ghost use Rattle.wrap.specs.Filled.{between, Ready, Turns, Any, Wide, OneKind, Finished};
 use crate::line::Cursor;
 use crate::token;
 use tape::letter;
@@ -52,7 +52,7 @@ fn place(ws: &mut [u8], line: Cursor, i: usize, j: usize, columns: usize, limit:
 // new or just closed for it.
 fn put_token(ws: &mut [u8], line: Cursor, i: usize, j: usize, limit: usize) -> Cursor
     requires { ⌜ Ready line (now ws) i j limit ⌝ }
-    ensures { λ r. ⌜ Turns (Even i j) (λ (ls : List Letter) (f : Filling). putToken ls limit f (between i j)) j line (now (ws .entry)) r (now (ws .exit)) ⌝ }
+    ensures { λ r. ⌜ Turns (OneKind i j) (λ (ls : List Letter) (f : Filling). putToken ls limit f (between i j)) j line (now (ws .entry)) r (now (ws .exit)) ⌝ }
 {
     let columns = token::visible_cols(ws, i, j);
     if columns == 0 {
