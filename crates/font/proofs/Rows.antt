@@ -12,7 +12,7 @@ use lib.ListN.{length, getD, take, drop, length-append, length-drop, take-append
 use lib.Seq.{length-take-le, take-at, drop-at, drop-drop, take-add}
 use Rattle.font.specs.Font.{bearingY}
 use Rattle.font.specs.Stroke.{origin, paintRow, strokeRow, eachRow}
-use Rattle.font.proofs.Columns.{cond-same, columns-length, columns-clear}
+use Rattle.font.proofs.Columns.{cond-length, cond-same, columns-length, columns-clear}
 
 -- row i of some rows ends within them
 pub row-in : (i rows size : ℕ) {n : ℕ} → i < rows → rows * size ≤ n → i * size + size ≤ n
@@ -74,8 +74,40 @@ module _ (f : ℕ → List ℕ → List ℕ) (size : ℕ) where
         e,
       ) w
 
+-- a change that keeps each row as long as it is
+module _ (f : ℕ → List ℕ → List ℕ) (size : ℕ) (same : (y : ℕ) (row : List ℕ) → length (f y row) ≡ length row) where
+  pub rows-length : (n y : ℕ) (l : List ℕ) → length (eachRow f size n y l) ≡ length l
+  unfolding eachRow
+  rows-length zero y l = refl
+  rows-length (suc n) y l =
+      length-append (f y (take size l)) (eachRow f size n (suc y) (drop size l))
+      ∙ rw (same y (take size l), rows-length n (suc y) (drop size l)) (sym (length-append (take size l) (drop size l)))
+      ∙ ap length (take-append-drop size l)
+
+  -- one change after the other
+  pub rows-then : (g : ℕ → List ℕ → List ℕ) (n y : ℕ) (l : List ℕ) → n * size ≤ length l
+      → eachRow (λ j row. g j (f j row)) size n y l ≡ eachRow g size n y (eachRow f size n y l)
+  unfolding eachRow
+  rows-then g zero y l h = refl
+  rows-then g (suc n) y l h =
+      let wide = suc-mul n size in
+      let rest : List ℕ = eachRow f size n (suc y) (drop size l) in
+      let first : length (f y (take size l)) ≡ size = same y (take size l) ∙ length-take-le size l (omega arith) in
+      rw (
+        take-at (f y (take size l)) rest size first,
+        drop-at (f y (take size l)) rest size first,
+        rows-then g n (suc y) (drop size l) (rw length-drop (omega arith)),
+      )
+
 -- the cases of a stroke's row
 module _ (glyph offsets k : List ℕ) (x base y : ℕ) (row : List ℕ) where
+  pub stroke-length : length (strokeRow glyph offsets k x base y row) ≡ length row
+  unfolding strokeRow
+  stroke-length =
+      let r = origin + y - (base - bearingY) in
+      cond-length (leb (base - bearingY) (origin + y) && ltb r 16) _ row
+      (columns-length k (getD glyph r 0) (x + getD offsets r 0 - 8) 8 row) refl
+
   pub stroke-on : (r : ℕ) → r < 16 → origin + y ≡ base - bearingY + r
       → strokeRow glyph offsets k x base y row ≡ paintRow k (getD glyph r 0) (x + getD offsets r 0 - 8) row
   unfolding strokeRow

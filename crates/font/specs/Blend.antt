@@ -1,9 +1,13 @@
 -- Blending a color into a pixel: document 01, "Blend, alpha a > 0 ..". Definitions only.
 use mathlib.Core.Bool.{cond}
-use mathlib.Core.List.{List}
-use Prim.Native.Nat.{ℕ, _+_, _-_, _*_, _/_, min}
+use mathlib.Core.List.{List, [], _∷_}
+use Prim.Native.Nat.{ℕ, _+_, _-_, _*_, _/_, _%_, _^_, min}
 use lib.Dec.{eqb}
 use lib.ListN.{getD, set}
+
+-- the four bytes of a color that is written as the number 0xRRGGBBAA
+abbrev pub colorBytes : ℕ → List ℕ
+colorBytes k = k / 2 ^ 24 ∷ k / 2 ^ 16 % 256 ∷ k / 2 ^ 8 % 256 ∷ k % 256 ∷ []
 
 -- the color byte s with alpha a over the picture's byte d
 unfoldable pub blendByte : ℕ → ℕ → ℕ → ℕ

@@ -9,6 +9,7 @@ ghost use mathlib.Core.Path.{_≡_};
 ghost use mathlib.Core.Bool.{true, false};
 ghost use Prim.Native.Nat.{_<_};
 ghost use Rattle.font.specs.Font.{fontOf, tableOf, glyphRows};
+ghost use Rattle.font.specs.Blend.{colorBytes};
 ghost use Rattle.font.specs.Slant.{rowOffset, rowOffsets};
 ghost use Rattle.font.specs.Shear.{penOf, leans, Shear, Moved, rounded};
 
@@ -78,6 +79,18 @@ pub fn glyph_rows(table: &[u8; 4096], code: u32) -> [u8; 16]
         r += 1;
     }
     rows
+}
+
+// The bytes of a color 0xRRGGBBAA.
+pub fn color_bytes(color: u32) -> [u8; 4]
+    ensures { λ r. ⌜ r ≡ colorBytes color ⌝ }
+{
+    [
+        (color / 0x100_0000) as u8,
+        (color / 0x1_0000 % 256) as u8,
+        (color / 0x100 % 256) as u8,
+        (color % 256) as u8,
+    ]
 }
 
 // What a stroke is drawn with.

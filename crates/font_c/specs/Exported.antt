@@ -1,17 +1,14 @@
 -- What the exported functions mean, over the definitions of `font`. Definitions only.
 use mathlib.Core.Path.{_≡_}
 use mathlib.Core.Bool.{Bool, cond, _&&_}
-use mathlib.Core.List.{List, [], _∷_}
-use Prim.Native.Nat.{ℕ, _*_, _/_, _%_, _^_}
+use mathlib.Core.List.{List}
+use Prim.Native.Nat.{ℕ, _*_, _/_}
 use lib.Dec.{leb, ltb}
 use lib.ListN.{length}
 use Rattle.font.specs.Font.{tableOf, glyphRows}
+use Rattle.font.specs.Blend.{colorBytes}
 use Rattle.font.specs.Slant.{rowOffsets}
 use Rattle.font.specs.Stroke.{origin, strokeRow, eachRow}
-
--- a color 0xRRGGBBAA as its four bytes
-abbrev pub colorOf : ℕ → List ℕ
-colorOf k = k / 2 ^ 24 ∷ k / 2 ^ 16 % 256 ∷ k / 2 ^ 8 % 256 ∷ k % 256 ∷ []
 
 -- a place from 2^25 up to 2^27; the picture's corner is at 2^26
 unfoldable pub near : ℕ → Bool
@@ -26,7 +23,7 @@ admitted n width rows first x y =
 unfoldable pub stroked : ℕ → ℕ → ℕ → ℕ → Bool → Bool → ℕ → ℕ → ℕ → List ℕ → List ℕ
 stroked width rows first code bold italic k x y l =
     cond (admitted (length l) width rows first x y)
-    (eachRow (strokeRow (glyphRows (tableOf bold) code) (rowOffsets italic) (colorOf k) x y) (4 * width) rows first l)
+    (eachRow (strokeRow (glyphRows (tableOf bold) code) (rowOffsets italic) (colorBytes k) x y) (4 * width) rows first l)
     l
 
 -- the answer of a stroke, and the part before and after it

@@ -2,7 +2,7 @@
 // stroke by stroke. The captions themselves have an interface of their own.
 ghost use mathlib.Core.Path.{_≡_};
 ghost use Rattle.font.specs.Font.{tableOf, glyphRows};
-ghost use Rattle.font_c.specs.Exported.{colorOf, near, admitted, Stroked};
+ghost use Rattle.font_c.specs.Exported.{near, admitted, Stroked};
 use font::BitmapFont;
 use font::Pen;
 
@@ -22,18 +22,6 @@ pub extern "C" fn font_glyph_rows(code: u32, bold: bool, rows: &mut [u8; 16])
     ensures { λ _. ⌜ now (rows .exit) ≡ glyphRows (tableOf bold) code ⌝ }
 {
     *rows = font::glyph_rows(&table(bold), code);
-}
-
-// The bytes of a color 0xRRGGBBAA.
-fn color_bytes(color: u32) -> [u8; 4]
-    ensures { λ r. ⌜ r ≡ colorOf color ⌝ }
-{
-    [
-        (color / 0x100_0000) as u8,
-        (color / 0x1_0000 % 256) as u8,
-        (color / 0x100 % 256) as u8,
-        (color % 256) as u8,
-    ]
 }
 
 fn is_near(x: usize) -> bool
@@ -92,7 +80,7 @@ pub extern "C" fn font_stroke(
     if !is_admitted(part.len(), w, n, from, column, base) {
         return false;
     }
-    let pen = Pen::new(color_bytes(color), bold, italic);
+    let pen = Pen::new(font::color_bytes(color), bold, italic);
     let offsets = pen.row_offsets();
     let glyph = font::glyph_rows(&table(bold), code);
     font::draw_glyph_sheared(part, w, n, from, &glyph, &offsets, column, base, pen);

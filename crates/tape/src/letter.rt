@@ -5,7 +5,7 @@ ghost use mathlib.Core.Bool.{cond};
 ghost use Prim.Native.Nat.{_+_, _*_, _/_, _≤_, _<_};
 ghost use lib.ListN.{length};
 ghost use lib.Seq.{sets};
-ghost use Rattle.tape.specs.Stored.{flagsOf, cellOf, letterByte, codeAt, odd};
+ghost use Rattle.tape.specs.Stored.{flagsOf, cellOf, letterByte, codeAt, odd, styleAt};
 use crate::Style;
 use crate::wide;
 
@@ -45,6 +45,23 @@ pub fn code(ws: &[u8], number: usize) -> u32
 {
     let i = 8 * number;
     wide(ws[i]) * 65536 + wide(ws[i + 1]) * 256 + wide(ws[i + 2])
+}
+
+// The style of a stored letter.
+pub fn style(ws: &[u8], number: usize) -> Style
+    requires { ⌜ 8 * number + 8 ≤ length (now ws) ⌝ }
+    ensures { λ r. ⌜ r ≡ styleAt (now (ws .entry)) number ⌝ }
+{
+    let i = 8 * number;
+    let flags = ws[i + 7];
+    Style {
+        red: ws[i + 3],
+        green: ws[i + 4],
+        blue: ws[i + 5],
+        alpha: ws[i + 6],
+        bold: flags % 2 == 1,
+        italic: flags / 2 % 2 == 1,
+    }
 }
 
 // Whether a run starts with a stored letter.

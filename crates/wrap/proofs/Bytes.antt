@@ -31,6 +31,16 @@ take-twos zero a = refl
 take-twos (suc n) [] = let e : 2 * suc n ≡ suc (suc (2 * n)) = omega arith in rw e
 take-twos (suc n) (v ∷ a) = let e : 2 * suc n ≡ suc (suc (2 * n)) = omega arith in rw (e, take-twos n a)
 
+-- number i of them
+pub twos-at : (a : List ℕ) (i : ℕ) → i < length a → twoAt (twos a) (2 * i) ≡ getD a i 0
+unfolding twos
+twos-at [] i h = absurd (omega arith)
+twos-at (v ∷ a) zero h = omega arith
+twos-at (v ∷ a) (suc i) h =
+    let e : 2 * suc i ≡ suc (suc (2 * i)) = omega arith in
+    let d : suc (suc (2 * i)) + 1 ≡ suc (suc (2 * i + 1)) = omega arith in
+    rw (e, d) (twos-at a i (omega arith))
+
 -- ---- the table of lines
 
 pub table-snoc : (ls : List Letter) (r : List Line) (l : Line)

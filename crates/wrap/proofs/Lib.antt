@@ -3,6 +3,7 @@ pub mod Lists
 pub mod Cols
 pub mod Chunks
 pub mod Shown
+pub mod Once
 pub mod Narrow
 pub mod Bytes
 pub mod Onward

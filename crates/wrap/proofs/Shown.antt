@@ -53,10 +53,10 @@ module _ (ls : List Letter) where
 
   -- ---- all letters so far, line after line
 
-  unfoldable laid : Filling → Line
+  unfoldable pub laid : Filling → Line
   laid f = flatten (f .closed) ++ f .line
 
-  close-laid : (f : Filling) → laid (close f) ≡ laid f
+  pub close-laid : (f : Filling) → laid (close f) ≡ laid f
   unfolding laid flatten
   close-laid f = simp (flatten-append, append-nil)
 
@@ -109,7 +109,7 @@ module _ (ls : List Letter) where
         ∙ ap (λ (x : Line). x ++ flatten ts) (chunk-laid f t)
         ∙ append-assoc (laid f) t (flatten ts)
 
-    place-laid : (f : Filling) (t : Line) → laid (place ls L f t) ≡ laid f ++ t
+    pub place-laid : (f : Filling) (t : Line) → laid (place ls L f t) ≡ laid f ++ t
     unfolding place
     place-laid f t =
         cases (λ (g : Filling). laid g ≡ laid f ++ t) (ltb L (visibleCols ls t)) _ _

@@ -1,3 +1,4 @@
+use mathlib.Core.Path.{_∙_}
 use native.Mathlib.Omega.{arith}
 use Rattle.wrap.proofs.Answers.{lines-are, refusal-is}
 use borrow.Author.Needs.{needs}
@@ -13,18 +14,8 @@ enum-known-lines c = search needs
 enum-known-number : tie.Need-enum-known-number
 enum-known-number c = search needs
 
-cast-result : tie.Need-cast-result
-cast-result c = search needs
-
-mul-result : tie.Need-mul-result
-mul-result c = search needs
-
-add-result : tie.Need-add-result
-add-result c =
-    let r = refusal-is (c .before .before .before .before .before .wrap .ensures) (c .before .number .given .1) in
-    let most = r .most in
-    let near = r .near in
-    omega arith
+refusal-requires : tie.Need-refusal-requires
+refusal-requires c κs = let near = refusal-is (c .before .before .before .before .before .wrap .ensures) (c .before .number .given .1) .near in omega arith
 
 same-length : tie.Need-same-length
 same-length c = search needs
@@ -40,8 +31,8 @@ same-length-2 c = search needs
 
 returns-2 : tie.Need-returns-2
 returns-2 c =
-    let w = c .before .before .before .before .before .wrap .ensures in
-    record { answers = rw (refusal-is w (c .before .number .given .1) .means); leaves = w .leaves }
+    let w = c .before .before .before .before .before .before .wrap .ensures in
+    record { answers = rw (refusal-is w (c .before .before .number .given .1) .means) (c .refusal .ensures); leaves = w .leaves }
 
 pub captions-wrap-spec : {M : Type 1} → statement M
 captions-wrap-spec =
@@ -50,9 +41,7 @@ captions-wrap-spec =
     wrap-requires
     enum-known-lines
     enum-known-number
-    cast-result
-    mul-result
-    add-result
+    refusal-requires
     same-length
     returns
     same-length-2

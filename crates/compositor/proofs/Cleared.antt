@@ -1,0 +1,48 @@
+-- Strokes on a picture that was cleared.
+use mathlib.Core.Path.{_≡_, _∙_, refl, sym, ap}
+use mathlib.Core.List.{List, [], _∷_, _++_, append-assoc}
+use Prim.Native.Nat.{ℕ, zero, suc, _+_, _*_, _≤_}
+use native.Mathlib.Nat.{zero-mul, suc-mul, add-comm}
+use native.Mathlib.Omega.{arith}
+use lib.ListN.{length, take, drop, replicate, length-replicate, length-drop}
+use lib.Seq.{take-at, drop-at, drop-drop}
+use Rattle.font.specs.Stroke.{eachRow}
+use Rattle.compositor.specs.declared.Settings.{Settings}
+use Rattle.compositor.specs.declared.strokes.Rows.{Rows}
+use Rattle.compositor.specs.Settings.{rowBytes, pictureBytes}
+use Rattle.compositor.specs.Strokes.{Stroke}
+use Rattle.compositor.specs.Picture.{strokesOn, rowAfter, pictureAfter}
+use Rattle.compositor.specs.Painting.{painted}
+
+abbrev zeros : ℕ → List ℕ
+zeros n = replicate n 0
+
+zeros-add : (m n : ℕ) → zeros (m + n) ≡ zeros m ++ zeros n
+zeros-add zero n = let e : 0 + n ≡ n = omega arith in ap zeros e
+zeros-add (suc m) n = let e : suc m + n ≡ suc (m + n) = omega arith in ap zeros e ∙ ap (λ (l : List ℕ). 0 ∷ l) (zeros-add m n)
+
+-- rows of zeros, each changed, whatever was there before them
+rows-cleared : (f : ℕ → List ℕ → List ℕ) (size n y : ℕ) (bytes : List ℕ)
+    → eachRow f size n y (zeros (n * size) ++ drop (n * size) bytes) ≡ eachRow (λ j row. f j (zeros size)) size n y bytes
+unfolding eachRow
+rows-cleared f size zero y bytes = rw (zero-mul size)
+rows-cleared f size (suc n) y bytes =
+    let wide : suc n * size ≡ size + n * size = suc-mul n size ∙ add-comm (n * size) size in
+    let back : List ℕ = zeros (n * size) ++ drop (n * size) (drop size bytes) in
+    let cut : zeros (suc n * size) ++ drop (suc n * size) bytes ≡ zeros size ++ back =
+    ap (λ (k : ℕ). zeros k ++ drop k bytes) wide
+    ∙ rw (zeros-add size (n * size), ← (drop-drop (n * size) size bytes)) (append-assoc (zeros size) (zeros (n * size)) (drop (n * size) (drop size bytes))) in
+    let long : length (zeros size) ≡ size = length-replicate size 0 in
+    rw (
+      cut,
+      take-at (zeros size) back size long,
+      drop-at (zeros size) back size long,
+      rows-cleared f size n (suc y) (drop size bytes),
+    )
+
+-- the first c strokes on the whole picture
+pub picture-drawn : (s : Settings) (ts : List Stroke) (c : ℕ) (bytes : List ℕ)
+    → painted (record { width = s .width; count = s .height; first = 0 }) (take c ts) (zeros (pictureBytes s) ++ drop (pictureBytes s) bytes)
+    ≡ pictureAfter s ts c bytes
+unfolding rowAfter
+picture-drawn s ts c bytes = rows-cleared (strokesOn (take c ts)) (rowBytes s) (s .height) 0 bytes

@@ -1,0 +1,10 @@
+pub mod Painting
+pub mod Outlines
+pub mod Ranges
+pub mod Reading
+pub mod Held
+pub mod Total
+pub mod Cleared
+pub mod Whole
+pub mod Calls
+pub mod Answers

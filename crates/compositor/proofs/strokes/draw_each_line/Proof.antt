@@ -1,0 +1,141 @@
+use mathlib.Core.Path.{_≡_, _∙_, refl, sym, subst}
+use Prim.Native.Nat.{ℕ, _+_, _-_, _≤_}
+use native.Mathlib.Omega.{arith}
+use lib.ListN.{length}
+use Rattle.compositor.specs.Read.{lettersFrom, strokesAt}
+use Rattle.compositor.specs.Painting.{Lent}
+use Rattle.compositor.proofs.Painting.{Still, begin, turn, done}
+use Rattle.compositor.proofs.Reading.{linesLeft, lines-begin, lines-turn, lines-end, letters-turn, fewer}
+use Rattle.compositor.proofs.strokes.draw_each_line.Statement.{statement}
+use Rattle.compositor.proofs.strokes.draw_each_line.Tie as tie
+
+abbrev Inv-loop : tie.InvT-loop
+Inv-loop part₀ rows regular bold upright slanted ws s lines left₀ first₀ i₀ part left first i =
+    (i ≤ lines)
+    × (first + lettersFrom ws i (lines - i) ≡ lettersFrom ws 0 lines)
+    × (length part ≡ length part₀)
+    × Still rows (strokesAt s ws 0 0 lines) left₀ part₀ (linesLeft s ws lines first i) left part
+
+abbrev μ-loop : tie.MeasureT-loop
+μ-loop part₀ rows regular bold upright slanted ws s lines left₀ first₀ i₀ part left first i = lines - i
+
+loop-holds : tie.Need-loop-holds Inv-loop μ-loop
+loop-holds c =
+    let a = c .before .before .args in
+    let n : a .lines - 0 ≡ a .lines = omega arith in
+    let none : 0 + lettersFrom (a .ws .now) 0 (a .lines - 0) ≡ lettersFrom (a .ws .now) 0 (a .lines) = rw n (omega arith) in
+    (omega arith, none, refl, begin _ _ _ _ (lines-begin (a .s) (a .ws .now) (a .lines)))
+
+mul-number-at : tie.Need-mul-number-at Inv-loop μ-loop
+mul-number-at c = let few = c .before .before .before .before .pre .4 in omega arith
+
+add-number-at : tie.Need-add-number-at Inv-loop μ-loop
+add-number-at c = let few = c .before .before .before .before .pre .4 in omega arith
+
+number-at-requires : tie.Need-number-at-requires Inv-loop μ-loop
+number-at-requires c κs = let few = c .before .before .before .before .pre .4 in let room = c .before .before .before .before .pre .2 .room in omega arith
+
+measure-line-requires : tie.Need-measure-line-requires Inv-loop μ-loop
+measure-line-requires c κs = let few = c .before .before .before .before .before .pre .4 in let room = c .before .before .before .before .before .pre .2 .room in let h = c .before .loop-test .taken in omega arith
+
+line-start-requires : tie.Need-line-start-requires Inv-loop μ-loop
+line-start-requires c κs = (c .before .before .before .before .before .before .pre .3, c .measure-line .ensures .1)
+
+sub-baseline : tie.Need-sub-baseline Inv-loop μ-loop
+sub-baseline c = let h = c .before .before .before .loop-test .taken in omega arith
+
+sub-baseline-2 : tie.Need-sub-baseline-2 Inv-loop μ-loop
+sub-baseline-2 c = let h = c .before .before .before .loop-test .taken in omega arith
+
+baseline-requires : tie.Need-baseline-requires Inv-loop μ-loop
+baseline-requires c κs = let few = c .before .before .before .before .before .before .before .pre .4 in (c .before .before .before .before .before .before .before .pre .3, omega arith)
+
+draw-line-requires : tie.Need-draw-line-requires Inv-loop μ-loop
+draw-line-requires c κs =
+    let s = c .before .before .before .before .before .before .before .before .before in
+    let l = c .before .before .before .before .before .before .loop in
+    let h = c .before .before .before .before .before .loop-test .taken in
+    let n = c .before .before .before .before .number-at .ensures .0 in
+    let x = c .before .before .line-start .ensures in
+    let y = c .before .baseline .ensures in
+    let left = x .1 in
+    let right = x .2 in
+    let on = letters-turn (s .args .ws .now) (s .args .lines) (l .i) h in
+    let sum = l .inv .1 in
+    let fits = subst (λ (n : ℕ). Lent n (s .args .rows)) (sym (l .inv .2)) (s .pre .0) in (
+      fits,
+      s .pre .1,
+      fewer _ (omega arith) (s .pre .2),
+      record { x-least = omega arith; x-most = omega arith; base-least = y .1; base-most = y .2 },
+      right,
+    )
+
+add-first : tie.Need-add-first Inv-loop μ-loop
+add-first c =
+    let s = c .before .before .before .before .before .before .before .before .before .before .before .before in
+    let l = c .before .before .before .before .before .before .before .before .before .loop in
+    let h = c .before .before .before .before .before .before .before .before .loop-test .taken in
+    let n = c .before .before .before .before .before .before .before .number-at .ensures .0 in
+    let on = letters-turn (s .args .ws .now) (s .args .lines) (l .i) h in
+    let sum = l .inv .1 in
+    let few = s .pre .2 .few in
+    omega arith
+
+add-i : tie.Need-add-i Inv-loop μ-loop
+add-i c = let few = c .before .before .before .before .before .before .before .before .before .before .before .before .pre .4 in let h = c .before .before .before .before .before .before .before .before .loop-test .taken in omega arith
+
+loop-less : tie.Need-loop-less Inv-loop μ-loop
+loop-less c = let h = c .before .before .before .before .before .before .before .before .loop-test .taken in omega arith
+
+loop-again : tie.Need-loop-again Inv-loop μ-loop
+loop-again c =
+    let s = c .before .before .before .before .before .before .before .before .before .before .before .before in
+    let l = c .before .before .before .before .before .before .before .before .before .loop in
+    let h = c .before .before .before .before .before .before .before .before .loop-test .taken in
+    let n = c .before .before .before .before .before .before .before .number-at .ensures .0 in
+    let w = c .before .before .before .before .before .before .measure-line .ensures .0 in
+    let x = c .before .before .before .before .before .line-start .ensures .0 in
+    let y = c .before .before .before .before .baseline .ensures .0 in
+    let d = c .before .before .draw-line in
+    let on = letters-turn (s .args .ws .now) (s .args .lines) (l .i) h in
+    let sum = l .inv .1 in
+    let fits : Lent (length (l .part)) (s .args .rows) = subst (λ (n : ℕ). Lent n (s .args .rows)) (sym (l .inv .2)) (s .pre .0) in (
+      omega arith,
+      omega arith,
+      d .kept .0 ∙ l .inv .2,
+      rw (n)
+          (turn _ _ _ _ _ _ (lines-turn (s .args .s) (s .args .ws .now) (s .args .lines) (l .first) (l .i) h) fits
+          (rw (n, x, w, y) at (d .ensures)) (l .inv .3)),
+    )
+
+same-length : tie.Need-same-length Inv-loop μ-loop
+same-length c = c .before .loop .inv .2
+
+returns : tie.Need-returns Inv-loop μ-loop
+returns c =
+    let a = c .before .before .before .before .args in
+    let l = c .before .loop in
+    done _ _ _ _ (lines-end (a .s) (a .ws .now) (a .lines) (l .first) (l .i) (c .loop-test .left)) (l .inv .3) .paints
+
+pub draw-each-line-spec : {M : Type 1} → statement M
+draw-each-line-spec =
+    tie.close
+    (tie.spec
+    Inv-loop
+    μ-loop
+    loop-holds
+    mul-number-at
+    add-number-at
+    number-at-requires
+    measure-line-requires
+    line-start-requires
+    sub-baseline
+    sub-baseline-2
+    baseline-requires
+    draw-line-requires
+    add-first
+    add-i
+    loop-less
+    loop-again
+    same-length
+    returns)

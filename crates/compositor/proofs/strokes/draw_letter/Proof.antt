@@ -1,0 +1,88 @@
+use mathlib.Core.Path.{_≡_, _∙_, refl, sym, ap, subst}
+use Prim.Native.Nat.{ℕ}
+use native.Mathlib.Omega.{arith}
+use Rattle.font.specs.declared.Pen.{Pen}
+use Rattle.tape.specs.Stored.{letterAt}
+use Rattle.compositor.specs.Strokes.{glyphStrokes}
+use Rattle.compositor.specs.Painting.{Lent}
+use Rattle.compositor.proofs.Painting.{then, same}
+use Rattle.compositor.proofs.Reading.{glyph-is, offsets-are, letter-strokes}
+use borrow.Author.Needs.{needs}
+use Rattle.compositor.proofs.strokes.draw_letter.Statement.{statement}
+use Rattle.compositor.proofs.strokes.draw_letter.Tie as tie
+
+code-requires : tie.Need-code-requires
+code-requires c κs = search needs
+
+style-requires : tie.Need-style-requires
+style-requires c κs = search needs
+
+glyph-of-requires : tie.Need-glyph-of-requires
+glyph-of-requires c κs = search needs
+
+offsets-of-requires : tie.Need-offsets-of-requires
+offsets-of-requires c κs = search needs
+
+new-requires : tie.Need-new-requires
+new-requires c κs = search needs
+
+new-requires-2 : tie.Need-new-requires-2
+new-requires-2 c κs = search needs
+
+outline-requires : tie.Need-outline-requires
+outline-requires c κs = search needs
+
+draw-outline-requires : tie.Need-draw-outline-requires
+draw-outline-requires c κs = let s = c .before .before .before .before .before .before .before .before .before .before .before .before .before in (s .pre .0, s .pre .3, c .outline .ensures .1)
+
+draw-stroke-requires : tie.Need-draw-stroke-requires
+draw-stroke-requires c κs =
+    let s = c .before .before .before .before .before .before .before .before .before .before .before .before .before .before .before .before .before .before .before in
+    let near = s .pre .3 in
+    let left = near .x-least in
+    let right = near .x-most in
+    let top = near .base-least in
+    let bottom = near .base-most in
+    let fits = subst (λ (n : ℕ). Lent n (s .args .rows)) (sym (c .before .before .before .before .before .draw-outline .kept .0)) (s .pre .0) in
+    (fits, omega arith, omega arith, omega arith, omega arith)
+
+same-length : tie.Need-same-length
+same-length c = search needs
+
+returns : tie.Need-returns
+unfolding glyphStrokes
+returns c =
+    let s = c .before .before .before .before .before .before .before .before .before .before .before .before .before .before .before .before .before .before .before .before .before .before in
+    let code = c .before .before .before .before .before .before .before .before .before .before .before .before .before .before .before .before .before .before .before .code in
+    let style = c .before .before .before .before .before .before .before .before .before .before .before .before .before .before .before .before .before .before .style in
+    let glyph = c .before .before .before .before .before .before .before .before .before .before .before .before .before .before .before .before .before .glyph-of in
+    let offsets = c .before .before .before .before .before .before .before .before .before .before .before .before .before .before .before .before .offsets-of in
+    let around = c .before .before .before .before .before .before .before .before .before .before .before .before .before .before .new in
+    let own = c .before .before .before .before .before .before .before .before .before .before .before .before .before .new2 in
+    let outline = c .before .before .before .before .before .before .before .before .before .outline in
+    let a = c .before .before .before .before .before .before .before .before .draw-outline in
+    let b = c .before .before .draw-stroke in
+    let l = letterAt (s .args .ws .now) (s .args .number) in
+    let whole = letter-strokes (s .args .s) l (s .args .x) (s .args .y)
+    (glyph .ensures ∙ rw (style .ensures, code .ensures) (glyph-is (s .pre .1) (l .style .bold) (l .code)))
+    (offsets .ensures ∙ rw (style .ensures) (offsets-are (s .pre .1) (l .style .italic)))
+    (ap (λ (p : Pen). p .color) (around .ensures))
+    (ap (λ (p : Pen). p .color) (own .ensures) ∙ rw (style .ensures) refl)
+    (outline .ensures .0) in
+    same (s .args .rows) whole (then (s .args .rows) _ _ (s .pre .0) (a .ensures) (b .ensures))
+
+pub draw-letter-spec : {M : Type 1} → statement M
+draw-letter-spec =
+    tie.close
+    (tie.spec
+    code-requires
+    style-requires
+    glyph-of-requires
+    offsets-of-requires
+    new-requires
+    new-requires-2
+    outline-requires
+    draw-outline-requires
+    draw-stroke-requires
+    same-length
+    returns)

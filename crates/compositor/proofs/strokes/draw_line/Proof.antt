@@ -1,0 +1,119 @@
+use borrow.Author.Needs.{needs}
+use mathlib.Core.Path.{_≡_, _∙_, refl, sym, subst}
+use Prim.Native.Nat.{ℕ, _+_, _-_, _*_, _≤_}
+use native.Mathlib.Omega.{arith}
+use lib.ListN.{length}
+use Rattle.compositor.specs.Strokes.{lineStrokes}
+use Rattle.compositor.specs.Read.{lettersAt}
+use Rattle.compositor.specs.Painting.{Lent}
+use Rattle.compositor.proofs.Painting.{Still, begin, turn, done}
+use Rattle.compositor.proofs.Reading.{lineLeft, line-begin, line-turn, line-end}
+use Rattle.compositor.proofs.strokes.draw_line.Statement.{statement}
+use Rattle.compositor.proofs.strokes.draw_line.Tie as tie
+
+abbrev Inv-loop : tie.InvT-loop
+Inv-loop part₀ rows regular bold upright slanted ws first letters s x y left₀ at₀ i₀ part left at i =
+    (i ≤ letters)
+    × (at ≡ x + 8 * i)
+    × (length part ≡ length part₀)
+    × Still rows (lineStrokes s x y (lettersAt ws first letters)) left₀ part₀ (lineLeft s ws y first letters at i) left part
+
+abbrev μ-loop : tie.MeasureT-loop
+μ-loop part₀ rows regular bold upright slanted ws first letters s x y left₀ at₀ i₀ part left at i = letters - i
+
+loop-holds : tie.Need-loop-holds Inv-loop μ-loop
+loop-holds c =
+    let a = c .before .before .args in
+    (omega arith, omega arith, refl, begin _ _ _ _ (line-begin (a .s) (a .ws .now) (a .y) (a .first) (a .letters) (a .x)))
+
+add-number-at : tie.Need-add-number-at Inv-loop μ-loop
+add-number-at c = let few = c .before .before .before .before .pre .2 .few in omega arith
+
+mul-number-at : tie.Need-mul-number-at Inv-loop μ-loop
+mul-number-at c = let few = c .before .before .before .before .pre .2 .few in omega arith
+
+add-number-at-2 : tie.Need-add-number-at-2 Inv-loop μ-loop
+add-number-at-2 c = let few = c .before .before .before .before .pre .2 .few in omega arith
+
+number-at-requires : tie.Need-number-at-requires Inv-loop μ-loop
+number-at-requires c κs = let r = c .before .before .before .before .pre .2 in let few = r .few in let room = r .room in omega arith
+
+draw-letter-requires : tie.Need-draw-letter-requires Inv-loop μ-loop
+draw-letter-requires c κs =
+    let s = c .before .before .before .before .before .before in
+    let l = c .before .before .before .loop in
+    let h = c .before .before .loop-test .taken in
+    let r = s .pre .2 in
+    let few = r .few in
+    let room = r .room in
+    let n = c .before .number-at .ensures .0 in
+    let known = r .known (s .args .first + l .i) (omega arith) in
+    let near = s .pre .3 in
+    let left = near .x-least in
+    let at = l .inv .1 in
+    let far = s .pre .4 in
+    let fits = subst (λ (n : ℕ). Lent n (s .args .rows)) (sym (l .inv .2)) (s .pre .0) in
+    (fits, s .pre .1, omega arith, record { x-least = omega arith; x-most = omega arith; base-least = near .base-least; base-most = near .base-most })
+
+cast-at : tie.Need-cast-at Inv-loop μ-loop
+cast-at c = search needs
+
+add-at : tie.Need-add-at Inv-loop μ-loop
+add-at c =
+    let s = c .before .before .before .before .before .before .before .before .before in
+    let l = c .before .before .before .before .before .before .loop in
+    let few = s .pre .2 .few in
+    let at = l .inv .1 in
+    let far = s .pre .4 in
+    let h = l .inv .0 in
+    omega arith
+
+add-i : tie.Need-add-i Inv-loop μ-loop
+add-i c = let h = c .before .before .before .before .before .before .before .before .before .pre .2 .few in let l = c .before .before .before .before .before .loop-test .taken in omega arith
+
+loop-less : tie.Need-loop-less Inv-loop μ-loop
+loop-less c = let l = c .before .before .before .before .before .loop-test .taken in omega arith
+
+loop-again : tie.Need-loop-again Inv-loop μ-loop
+loop-again c =
+    let s = c .before .before .before .before .before .before .before .before .before in
+    let l = c .before .before .before .before .before .before .loop in
+    let h = c .before .before .before .before .before .loop-test .taken in
+    let n = c .before .before .before .before .number-at .ensures .0 in
+    let d = c .before .before .draw-letter in
+    let at = l .inv .1 in
+    let fits : Lent (length (l .part)) (s .args .rows) = subst (λ (n : ℕ). Lent n (s .args .rows)) (sym (l .inv .2)) (s .pre .0) in (
+      omega arith,
+      omega arith,
+      d .kept .0 ∙ l .inv .2,
+      turn _ _ _ _ _ _ (line-turn (s .args .s) (s .args .ws .now) (s .args .y) (s .args .first) (s .args .letters) (l .at) (l .i) h) fits (rw n at (d .ensures)) (l .inv .3),
+    )
+
+same-length : tie.Need-same-length Inv-loop μ-loop
+same-length c = c .before .loop .inv .2
+
+returns : tie.Need-returns Inv-loop μ-loop
+returns c =
+    let a = c .before .before .before .before .args in
+    let l = c .before .loop in
+    done _ _ _ _ (line-end (a .s) (a .ws .now) (a .y) (a .first) (a .letters) (l .at) (l .i) (c .loop-test .left)) (l .inv .3)
+
+pub draw-line-spec : {M : Type 1} → statement M
+draw-line-spec =
+    tie.close
+    (tie.spec
+    Inv-loop
+    μ-loop
+    loop-holds
+    add-number-at
+    mul-number-at
+    add-number-at-2
+    number-at-requires
+    draw-letter-requires
+    cast-at
+    add-at
+    add-i
+    loop-less
+    loop-again
+    same-length
+    returns)

@@ -1,0 +1,71 @@
+use mathlib.Core.Path.{_∙_, ap}
+use Rattle.font.specs.declared.BitmapFont.{BitmapFont}
+use Rattle.font.specs.Font.{tableOf}
+use mathlib.Core.Path.{_∙_}
+use mathlib.Core.Bool.{true, false}
+use Rattle.font.specs.Shear.{Shear}
+use Rattle.font.proofs.Rounding.{leans-back, shear-of}
+use borrow.Author.Needs.{needs}
+use Rattle.compositor.proofs.strokes.draw_lines.Statement.{statement}
+use Rattle.compositor.proofs.strokes.draw_lines.Tie as tie
+
+default-regular-requires : tie.Need-default-regular-requires
+default-regular-requires c κs = search needs
+
+table-requires : tie.Need-table-requires
+table-requires c κs = search needs
+
+default-bold-requires : tie.Need-default-bold-requires
+default-bold-requires c κs = search needs
+
+table-requires-2 : tie.Need-table-requires-2
+table-requires-2 c κs = search needs
+
+new-requires : tie.Need-new-requires
+new-requires c κs = search needs
+
+row-offsets-requires : tie.Need-row-offsets-requires
+row-offsets-requires c κs = rw (c .new .ensures) (shear-of _)
+
+new-requires-2 : tie.Need-new-requires-2
+new-requires-2 c κs = search needs
+
+row-offsets-requires-2 : tie.Need-row-offsets-requires-2
+row-offsets-requires-2 c κs = rw (c .new2 .ensures) (shear-of _)
+
+draw-each-line-requires : tie.Need-draw-each-line-requires
+draw-each-line-requires c κs =
+    let s = c .before .before .before .before .before .before .before .before .before .before .before .before .before .before .before in (
+      s .pre .0,
+      record {
+        regular-is = c .before .before .before .before .before .before .before .before .before .before .before .table .ensures ∙ ap (λ (f : BitmapFont). tableOf (f .bold)) (c .before .before .before .before .before .before .before .before .before .before .before .before .default-regular .ensures);
+        bold-is = c .before .before .before .before .before .before .before .before .before .table2 .ensures ∙ ap (λ (f : BitmapFont). tableOf (f .bold)) (c .before .before .before .before .before .before .before .before .before .before .default-bold .ensures);
+        upright-is = c .before .before .before .before .before .before .before .row-offsets .ensures ∙ rw (c .before .before .before .before .before .before .before .before .new .ensures, leans-back false);
+        slanted-is = c .before .before .before .before .before .row-offsets2 .ensures ∙ rw (c .before .before .before .before .before .before .new2 .ensures, leans-back true);
+      },
+      s .pre .1,
+      s .pre .2,
+      s .pre .3,
+    )
+
+same-length : tie.Need-same-length
+same-length c = search needs
+
+returns : tie.Need-returns
+returns c = c .before .before .draw-each-line .ensures
+
+pub draw-lines-spec : {M : Type 1} → statement M
+draw-lines-spec =
+    tie.close
+    (tie.spec
+    default-regular-requires
+    table-requires
+    default-bold-requires
+    table-requires-2
+    new-requires
+    row-offsets-requires
+    new-requires-2
+    row-offsets-requires-2
+    draw-each-line-requires
+    same-length
+    returns)

@@ -1,0 +1,65 @@
+use mathlib.Core.Path.{_≡_, _∙_, sym, subst}
+use mathlib.Core.List.{List}
+use native.Mathlib.Omega.{arith}
+use borrow.Author.Tests.{not-true, not-false}
+use Rattle.compositor.specs.Strokes.{Stroke, outlineStrokes}
+use Rattle.compositor.specs.Painting.{Painted}
+use Rattle.compositor.proofs.Painting.{nothing}
+use Rattle.compositor.proofs.Outlines.{one-on, one-off}
+use borrow.Author.Needs.{needs}
+use Rattle.compositor.proofs.strokes.draw_offset.Statement.{statement}
+use Rattle.compositor.proofs.strokes.draw_offset.Tie as tie
+
+is-on-ring-requires : tie.Need-is-on-ring-requires
+is-on-ring-requires c κs = search needs
+
+returns : tie.Need-returns
+returns c =
+    let a = c .before .before .before .args in
+    let off = one-off (a .o) (a .dy) (a .dx) (sym (c .before .is-on-ring .ensures) ∙ not-true _ (c .if1 .taken)) in
+    rw off (nothing (a .rows) (a .window) _)
+
+add-draw-stroke : tie.Need-add-draw-stroke
+add-draw-stroke c = let near = c .before .before .before .before .pre .1 in let most = near .x-most in omega arith
+
+sub-draw-stroke : tie.Need-sub-draw-stroke
+sub-draw-stroke c = let near = c .before .before .before .before .pre .1 in let least = near .x-least in omega arith
+
+add-draw-stroke-2 : tie.Need-add-draw-stroke-2
+add-draw-stroke-2 c = let near = c .before .before .before .before .pre .1 in let most = near .base-most in omega arith
+
+sub-draw-stroke-2 : tie.Need-sub-draw-stroke-2
+sub-draw-stroke-2 c = let near = c .before .before .before .before .pre .1 in let least = near .base-least in omega arith
+
+draw-stroke-requires : tie.Need-draw-stroke-requires
+draw-stroke-requires c κs =
+    let e = c .before .before .before .before .pre in
+    let near = e .1 in
+    let left = near .x-least in
+    let right = near .x-most in
+    let top = near .base-least in
+    let bottom = near .base-most in
+    (e .0, omega arith, omega arith, omega arith, omega arith)
+
+same-length : tie.Need-same-length
+same-length c = search needs
+
+returns-2 : tie.Need-returns-2
+returns-2 c =
+    let a = c .before .before .before .before .before .before .before .args in
+    let on = one-on (a .o) (a .dy) (a .dx) (sym (c .before .before .before .before .before .is-on-ring .ensures) ∙ not-false _ (c .before .before .before .before .if1 .left)) in
+    rw on (c .before .before .draw-stroke .ensures)
+
+pub draw-offset-spec : {M : Type 1} → statement M
+draw-offset-spec =
+    tie.close
+    (tie.spec
+    is-on-ring-requires
+    returns
+    add-draw-stroke
+    sub-draw-stroke
+    add-draw-stroke-2
+    sub-draw-stroke-2
+    draw-stroke-requires
+    same-length
+    returns-2)

@@ -1,0 +1,51 @@
+-- Promises: what the painter's functions ask of and tell each other. No reader of the deposit needs this file.
+use mathlib.Core.Path.{_≡_}
+use mathlib.Core.Bool.{true, false}
+use mathlib.Core.List.{List}
+use Prim.Native.Nat.{ℕ, _+_, _-_, _*_, _≤_, _<_}
+use lib.ListN.{length}
+use lib.Seq.{slice}
+use Rattle.font.specs.Font.{tableOf}
+use Rattle.font.specs.Slant.{rowOffsets}
+use Rattle.font.specs.Stroke.{origin, eachRow}
+use Rattle.compositor.specs.declared.strokes.Rows.{Rows}
+use Rattle.compositor.specs.declared.strokes.Window.{Window}
+use Rattle.compositor.specs.Strokes.{Stroke}
+use Rattle.compositor.specs.Picture.{strokesOn}
+
+-- a part of n bytes holds these rows of a picture
+pub record Lent (n : ℕ) (rows : Rows) : Type 0 where
+  pub narrow : rows .width ≤ 4096
+  pub short : rows .count ≤ 4096
+  pub high : rows .first ≤ 4096
+  pub long : rows .count * (4 * rows .width) ≤ n
+
+-- a place that is not too far off, for a glyph and its outline
+pub record Near (x base : ℕ) : Type 0 where
+  pub x-least : 16 ≤ x
+  pub x-most : x + 16 < 2 * origin
+  pub base-least : 32 ≤ base
+  pub base-most : base + 16 < 2 * origin
+
+-- the two tables, and the offsets of an upright and of an italic pen
+pub record Fonts (regular bold upright slanted : List ℕ) : Type 0 where
+  pub regular-is : regular ≡ tableOf false
+  pub bold-is : bold ≡ tableOf true
+  pub upright-is : upright ≡ rowOffsets false
+  pub slanted-is : slanted ≡ rowOffsets true
+
+-- those of the strokes ts that a window has, and the window counted from the strokes after n others
+abbrev pub cut : Window → List Stroke → List Stroke
+cut w ts = slice (w .from) (w .to) ts
+
+abbrev pub after : Window → ℕ → Window
+after w n = record { from = w .from - n; to = w .to - n }
+
+-- the lent rows with strokes
+abbrev pub painted : Rows → List Stroke → List ℕ → List ℕ
+painted rows ts part = eachRow (strokesOn ts) (4 * rows .width) (rows .count) (rows .first) part
+
+-- those of ts that the window has were drawn, and what is left of the window was handed back
+pub record Painted (rows : Rows) (ts : List Stroke) (w : Window) (part part' : List ℕ) (w' : Window) : Type 0 where
+  pub paints : part' ≡ painted rows (cut w ts) part
+  pub counts : w' ≡ after w (length ts)

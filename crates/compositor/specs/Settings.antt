@@ -1,0 +1,29 @@
+-- The settings: document 01, "Settings". Definitions only.
+-- Width and height in pixels; the default color and the outline's, each red, green, blue, alpha; line height, bottom margin and outline
+-- in pixels; and the alignment: 0 centre, 1 left, 2 start, 3 right, 4 end.
+use mathlib.Core.Bool.{Bool, _||_}
+use Prim.Native.Nat.{ℕ, _*_}
+use lib.Dec.{ltb}
+use Rattle.compositor.specs.declared.Settings.{Settings}
+
+-- the largest width and height, the largest line height, and the last alignment; bottom margin and outline may be any
+abbrev pub mostPixels : ℕ
+mostPixels = 4096
+
+abbrev pub mostLineHeight : ℕ
+mostLineHeight = 1024
+
+abbrev pub lastAlign : ℕ
+lastAlign = 4
+
+unfoldable pub outOfRange : Settings → Bool
+outOfRange s =
+    ltb mostPixels (s .width)
+    || (ltb mostPixels (s .height) || (ltb mostLineHeight (s .«line_height_px») || ltb lastAlign (s .align)))
+
+-- the bytes of a row, and of the picture: its rows from the top, each its pixels from the left, four bytes a pixel
+abbrev pub rowBytes : Settings → ℕ
+rowBytes s = 4 * s .width
+
+abbrev pub pictureBytes : Settings → ℕ
+pictureBytes s = s .height * rowBytes s

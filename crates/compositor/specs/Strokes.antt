@@ -1,0 +1,61 @@
+-- THE ONE DRAWING ORDER: document 01, "Places and strokes", second paragraph. Definitions only.
+-- A caption's strokes are one list: line after line from the top, letter after letter, and of each letter its outline's strokes and then
+-- its own.
+use mathlib.Core.List.{List, [], _∷_, _++_, map}
+use Prim.Native.Nat.{ℕ, _+_, _-_}
+use lib.ListN.{length}
+use Rattle.font.specs.Font.{cellW, tableOf, glyphRows}
+use Rattle.font.specs.Slant.{rowOffsets}
+use Rattle.tape.specs.declared.Style.{Style}
+use Rattle.tape.specs.Runs.{Letter}
+use Rattle.wrap.specs.Lines.{Line, letterOf, visibleCols, wrapRuns}
+use Rattle.compositor.specs.declared.Settings.{Settings}
+use Rattle.compositor.specs.Layout.{columnLimit, baseLine, lineWidth, lineStart}
+use Rattle.compositor.specs.Outline.{outlineOf, ring}
+
+-- a stroke: a glyph's sixteen rows and the offsets by which the pen moves them, a color, and the places of the glyph's left column and of
+-- its base line
+pub record Stroke : Type 0 where
+  pub glyph : List ℕ
+  pub offsets : List ℕ
+  pub color : List ℕ
+  pub x : ℕ
+  pub base : ℕ
+
+abbrev pub stroke : List ℕ → List ℕ → List ℕ → ℕ → ℕ → Stroke
+stroke glyph offsets k x base = record { glyph = glyph; offsets = offsets; color = k; x = x; base = base }
+
+-- a glyph's strokes in the color k of an outline, at the offsets ds, which are o larger than they are
+abbrev pub outlineStrokes : List ℕ → List ℕ → List ℕ → ℕ → ℕ → ℕ → List (ℕ × ℕ) → List Stroke
+outlineStrokes glyph offsets k o x base ds = map (λ d. stroke glyph offsets k (x + d .0 - o) (base + d .1 - o)) ds
+
+-- a glyph's strokes: its outline in the color k, and itself in the color own
+unfoldable pub glyphStrokes : List ℕ → List ℕ → List ℕ → List ℕ → ℕ → ℕ → ℕ → List Stroke
+glyphStrokes glyph offsets k own o x base =
+    outlineStrokes glyph offsets k o x base (ring o) ++ (stroke glyph offsets own x base ∷ [])
+
+abbrev pub colorOf : Style → List ℕ
+colorOf t = t .red ∷ t .green ∷ t .blue ∷ t .alpha ∷ []
+
+module _ (s : Settings) where
+  -- a letter's strokes
+  abbrev pub letterStrokes : Letter → ℕ → ℕ → List Stroke
+  letterStrokes l x base =
+      let t = l .style in
+      glyphStrokes (glyphRows (tableOf (t .bold)) (l .code)) (rowOffsets (t .italic)) (s .«outline_color») (colorOf t) (outlineOf s) x base
+
+  -- the strokes of letters on a line, the first at place x: each advances cell_w, controls too
+  unfoldable pub lineStrokes : ℕ → ℕ → List Letter → List Stroke
+  lineStrokes x base [] = []
+  lineStrokes x base (l ∷ ls) = letterStrokes l x base ++ lineStrokes (x + cellW) base ls
+
+  -- the strokes of lines from the top down, the last of them at the last base line
+  unfoldable pub linesStrokes : List Letter → List Line → List Stroke
+  linesStrokes ls [] = []
+  linesStrokes ls (line ∷ below) =
+      lineStrokes (lineStart s (lineWidth (visibleCols ls line))) (baseLine s (length below)) (map (letterOf ls) line)
+      ++ linesStrokes ls below
+
+  -- the strokes of a caption's letters, and T, how many they are
+  unfoldable pub drawing : List Letter → List Stroke
+  drawing ls = linesStrokes ls (wrapRuns ls (columnLimit s))

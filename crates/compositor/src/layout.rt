@@ -1,0 +1,100 @@
+// Where lines stand. Places are counted from the font's origin.
+ghost use mathlib.Core.Path.{_≡_};
+ghost use Prim.Native.Nat.{_+_, _-_, _*_, _≤_, _<_};
+ghost use lib.ListN.{length};
+ghost use Rattle.wrap.specs.Laid.{tableFrom, twoAt};
+ghost use Rattle.compositor.specs.Layout.{columnLimit, lineHeight, lastBaseLine, baseLine, lineWidth, lineStart};
+ghost use Rattle.compositor.specs.Read.{columnsOn};
+ghost use Rattle.font.specs.Stroke.{origin};
+ghost use Rattle.compositor.specs.Drawn.{InRange};
+use crate::Settings;
+use font::BitmapFont;
+use font::ORIGIN;
+use wrap::TABLE;
+
+const SIDE_MARGIN: usize = 8;
+
+fn wide(x: u8) -> usize
+    ensures { λ r. ⌜ (r ≡ x) × (r < 256) ⌝ }
+{
+    x as usize
+}
+
+// The number in two bytes at a place, high byte first.
+pub fn number_at(ws: &[u8], at: usize) -> usize
+    requires { ⌜ at + 2 ≤ length (now ws) ⌝ }
+    ensures { λ r. ⌜ (r ≡ twoAt (now (ws .entry)) at) × (r < 65536) ⌝ }
+{
+    wide(ws[at]) * 256 + wide(ws[at + 1])
+}
+
+// The most columns of a line.
+pub fn column_limit(s: Settings) -> usize
+    requires { ⌜ InRange s ⌝ }
+    ensures { λ r. ⌜ (r ≡ columnLimit s) × (1 ≤ r) × (r ≤ 512) ⌝ }
+{
+    let columns = s.width / BitmapFont::CELL_W;
+    if columns < 1 {
+        return 1;
+    }
+    columns as usize
+}
+
+fn line_height(s: Settings) -> usize
+    requires { ⌜ InRange s ⌝ }
+    ensures { λ r. ⌜ (r ≡ lineHeight s) × (r ≤ 1024) ⌝ }
+{
+    if s.line_height_px < BitmapFont::CELL_H {
+        return BitmapFont::CELL_H as usize;
+    }
+    s.line_height_px as usize
+}
+
+fn minus(a: u32, b: u32) -> u32
+    ensures { λ r. ⌜ r ≡ a - b ⌝ }
+{
+    if a < b { 0 } else { a - b }
+}
+
+// The picture's row on which the last line's base line stands.
+fn last_baseline(s: Settings) -> usize
+    requires { ⌜ InRange s ⌝ }
+    ensures { λ r. ⌜ (r ≡ lastBaseLine s) × (r ≤ 4096) ⌝ }
+{
+    let descent = BitmapFont::CELL_H - BitmapFont::BEARING_Y;
+    minus(minus(s.height, s.bottom_margin_px), descent) as usize
+}
+
+// The place of the base line of the line that has so many lines below it.
+pub fn baseline(s: Settings, below: usize) -> usize
+    requires { ⌜ InRange s × (below ≤ 4096) ⌝ }
+    ensures { λ r. ⌜ (r ≡ baseLine s below) × (32 ≤ r) × (r + 16 < 2 * origin) ⌝ }
+{
+    ORIGIN + last_baseline(s) - below * line_height(s)
+}
+
+// The pixels of a line of the workspace's table.
+pub fn measure_line(ws: &[u8], line: usize) -> usize
+    requires { ⌜ tableFrom + 4 * line + 4 ≤ length (now ws) ⌝ }
+    ensures { λ r. ⌜ (r ≡ lineWidth (columnsOn (now (ws .entry)) line)) × (r < 0x8_0000) ⌝ }
+{
+    number_at(ws, TABLE + 4 * line + 2) * BitmapFont::CELL_W as usize
+}
+
+// Where a line of w pixels starts.
+pub fn line_start(s: Settings, w: usize) -> usize
+    requires { ⌜ InRange s × (w < 0x8_0000) ⌝ }
+    ensures { λ r. ⌜ (r ≡ lineStart s w) × (0x10_0000 ≤ r) × (r ≤ origin + 4096) ⌝ }
+{
+    let width = s.width as usize;
+    if s.align == 0 {
+        if width < w {
+            return ORIGIN - (w - width) / 2;
+        }
+        return ORIGIN + (width - w) / 2;
+    }
+    if s.align <= 2 {
+        return ORIGIN + SIDE_MARGIN;
+    }
+    ORIGIN + width - w - SIDE_MARGIN
+}

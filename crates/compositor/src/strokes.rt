@@ -1,0 +1,376 @@
+// The painter: the strokes of letters, in their one order, on lent rows of a picture.
+ghost use mathlib.Core.Path.{_≡_};
+ghost use mathlib.Core.Bool.{cond};
+ghost use mathlib.Core.List.{[], _∷_};
+ghost use Prim.Native.Nat.{_+_, _-_, _*_, _≤_, _<_};
+ghost use lib.ListN.{length};
+ghost use Rattle.font.specs.Font.{tableOf, glyphRows, cellW};
+ghost use Rattle.font.specs.Slant.{rowOffsets};
+ghost use Rattle.font.specs.Stroke.{origin};
+ghost use Rattle.font.specs.Shear.{penOf};
+ghost use Rattle.tape.specs.Stored.{letterAt};
+ghost use Rattle.tape.specs.Command.{mostLetters};
+ghost use Rattle.tape.specs.Tape.{leastRoom};
+ghost use Rattle.compositor.specs.Outline.{onRing, ringRow, ring, outlineOf};
+ghost use Rattle.compositor.specs.Strokes.{stroke, outlineStrokes, glyphStrokes, letterStrokes, lineStrokes};
+ghost use Rattle.compositor.specs.Read.{numberAt, lettersAt, lettersFrom, strokesAt, Readable};
+ghost use Rattle.compositor.specs.Painting.{Lent, Near, Fonts, cut, after, painted, Painted};
+ghost use Rattle.compositor.specs.Drawn.{InRange};
+use crate::Settings;
+use crate::layout;
+use font::BitmapFont;
+use font::Pen;
+use tape::letter;
+use wrap::NUMBERS;
+use wrap::TABLE;
+
+// The rows of a picture that are lent: `count` rows of `width` pixels, the first of which is the
+// picture's row `first`.
+pub struct Rows {
+    pub width: usize,
+    pub count: usize,
+    pub first: usize,
+}
+
+// Which strokes are drawn: those from number `from` up to number `to`, counted from the first of
+// those at hand. Each function hands back what is left of its window for the strokes after its own.
+pub struct Window {
+    pub from: usize,
+    pub to: usize,
+}
+
+fn minus(a: usize, b: usize) -> usize
+    ensures { λ r. ⌜ r ≡ a - b ⌝ }
+{
+    if a < b { 0 } else { a - b }
+}
+
+impl Window {
+    // The window counted from the next stroke.
+    fn next(self) -> Window
+        ensures { λ r. ⌜ r ≡ after self 1 ⌝ }
+    {
+        Window {
+            from: minus(self.from, 1),
+            to: minus(self.to, 1),
+        }
+    }
+}
+
+// Draws one stroke, if the window has it.
+fn draw_stroke(
+    part: &mut [u8],
+    rows: Rows,
+    glyph: &[u8; 16],
+    offsets: &[u8; 16],
+    x: usize,
+    y: usize,
+    pen: Pen,
+    window: Window,
+) -> Window
+    requires { ⌜ Lent (length (now part)) rows × (8 ≤ x) × (x < 2 * origin) × (12 ≤ y) × (y < 2 * origin) ⌝ }
+    ensures { λ r. ⌜ Painted rows (stroke (now (glyph .entry)) (now (offsets .entry)) (pen .color) x y ∷ [])
+        window (now (part .entry)) (now (part .exit)) r ⌝ }
+{
+    if 0 < window.from {
+        return window.next();
+    }
+    if window.to == 0 {
+        return window;
+    }
+    font::draw_glyph_sheared(
+        part,
+        rows.width,
+        rows.count,
+        rows.first,
+        glyph,
+        offsets,
+        x,
+        y,
+        pen,
+    );
+    window.next()
+}
+
+fn distance(o: usize, d: usize) -> usize
+    ensures { λ r. ⌜ r ≡ d - o + (o - d) ⌝ }
+{
+    if d < o { o - d } else { d - o }
+}
+
+// Whether the larger distance of an offset is exactly o.
+fn is_on_ring(o: usize, dx: usize, dy: usize) -> bool
+    ensures { λ r. ⌜ r ≡ onRing o dx dy ⌝ }
+{
+    let x = distance(o, dx);
+    let y = distance(o, dy);
+    if x < y { y == o } else { x == o }
+}
+
+// Draws the stroke at an offset, which is o larger than it is, if the outline has it.
+fn draw_offset(
+    part: &mut [u8],
+    rows: Rows,
+    glyph: &[u8; 16],
+    offsets: &[u8; 16],
+    x: usize,
+    y: usize,
+    pen: Pen,
+    o: usize,
+    dx: usize,
+    dy: usize,
+    window: Window,
+) -> Window
+    requires { ⌜ Lent (length (now part)) rows × Near x y × (o ≤ 2) × (dx ≤ 2 * o) × (dy ≤ 2 * o) ⌝ }
+    ensures { λ r. ⌜ Painted rows
+        (outlineStrokes (now (glyph .entry)) (now (offsets .entry)) (pen .color) o x y (ringRow o dy dx 1))
+        window (now (part .entry)) (now (part .exit)) r ⌝ }
+{
+    if !is_on_ring(o, dx, dy) {
+        return window;
+    }
+    draw_stroke(
+        part,
+        rows,
+        glyph,
+        offsets,
+        x + dx - o,
+        y + dy - o,
+        pen,
+        window,
+    )
+}
+
+// Draws the strokes of the outline's row dy.
+fn draw_ring_row(
+    part: &mut [u8],
+    rows: Rows,
+    glyph: &[u8; 16],
+    offsets: &[u8; 16],
+    x: usize,
+    y: usize,
+    pen: Pen,
+    o: usize,
+    dy: usize,
+    window: Window,
+) -> Window
+    requires { ⌜ Lent (length (now part)) rows × Near x y × (o ≤ 2) × (dy ≤ 2 * o) ⌝ }
+    ensures { λ r. ⌜ Painted rows
+        (outlineStrokes (now (glyph .entry)) (now (offsets .entry)) (pen .color) o x y (ringRow o dy 0 (2 * o + 1)))
+        window (now (part .entry)) (now (part .exit)) r ⌝ }
+{
+    let mut left = window;
+    let mut dx = 0;
+    while dx < 2 * o + 1 {
+        left = draw_offset(part, rows, glyph, offsets, x, y, pen, o, dx, dy, left);
+        dx += 1;
+    }
+    left
+}
+
+// Draws a glyph's outline.
+fn draw_outline(
+    part: &mut [u8],
+    rows: Rows,
+    glyph: &[u8; 16],
+    offsets: &[u8; 16],
+    x: usize,
+    y: usize,
+    pen: Pen,
+    o: usize,
+    window: Window,
+) -> Window
+    requires { ⌜ Lent (length (now part)) rows × Near x y × (o ≤ 2) ⌝ }
+    ensures { λ r. ⌜ Painted rows
+        (outlineStrokes (now (glyph .entry)) (now (offsets .entry)) (pen .color) o x y (ring o))
+        window (now (part .entry)) (now (part .exit)) r ⌝ }
+{
+    if o == 0 {
+        return window;
+    }
+    let mut left = window;
+    let mut dy = 0;
+    while dy < 2 * o + 1 {
+        left = draw_ring_row(part, rows, glyph, offsets, x, y, pen, o, dy, left);
+        dy += 1;
+    }
+    left
+}
+
+// A letter's glyph out of the font of its bold mark.
+fn glyph_of(regular: &[u8; 4096], bold: &[u8; 4096], is_bold: bool, code: u32) -> [u8; 16]
+    ensures { λ r. ⌜ r ≡ glyphRows (cond «is_bold» (now (bold .entry)) (now (regular .entry))) code ⌝ }
+{
+    if is_bold {
+        return font::glyph_rows(bold, code);
+    }
+    font::glyph_rows(regular, code)
+}
+
+fn offsets_of(upright: &[u8; 16], slanted: &[u8; 16], italic: bool) -> [u8; 16]
+    ensures { λ r. ⌜ r ≡ cond italic (now (slanted .entry)) (now (upright .entry)) ⌝ }
+{
+    if italic { *slanted } else { *upright }
+}
+
+// Draws a letter of the workspace: its outline, and then itself.
+fn draw_letter(
+    part: &mut [u8],
+    rows: Rows,
+    regular: &[u8; 4096],
+    bold: &[u8; 4096],
+    upright: &[u8; 16],
+    slanted: &[u8; 16],
+    ws: &[u8],
+    number: usize,
+    s: Settings,
+    x: usize,
+    y: usize,
+    window: Window,
+) -> Window
+    requires { ⌜ Lent (length (now part)) rows × Fonts (now regular) (now bold) (now upright) (now slanted)
+        × (8 * number + 8 ≤ length (now ws)) × Near x y ⌝ }
+    ensures { λ r. ⌜ Painted rows (letterStrokes s (letterAt (now (ws .entry)) number) x y)
+        window (now (part .entry)) (now (part .exit)) r ⌝ }
+{
+    let code = letter::code(ws, number);
+    let style = letter::style(ws, number);
+    let glyph = glyph_of(regular, bold, style.bold, code);
+    let offsets = offsets_of(upright, slanted, style.italic);
+    let around = s.outline_color;
+    let outline = Pen::new(around, style.bold, style.italic);
+    let own = Pen::new(
+        [style.red, style.green, style.blue, style.alpha],
+        style.bold,
+        style.italic,
+    );
+    let left = draw_outline(
+        part,
+        rows,
+        &glyph,
+        &offsets,
+        x,
+        y,
+        outline,
+        s.outline(),
+        window,
+    );
+    draw_stroke(part, rows, &glyph, &offsets, x, y, own, left)
+}
+
+// Draws letters on lines, so many from the `first` on, the first of them at place x.
+fn draw_line(
+    part: &mut [u8],
+    rows: Rows,
+    regular: &[u8; 4096],
+    bold: &[u8; 4096],
+    upright: &[u8; 16],
+    slanted: &[u8; 16],
+    ws: &[u8],
+    first: usize,
+    letters: usize,
+    s: Settings,
+    x: usize,
+    y: usize,
+    window: Window,
+) -> Window
+    requires { ⌜ Lent (length (now part)) rows × Fonts (now regular) (now bold) (now upright) (now slanted)
+        × Readable (now ws) (first + letters) × Near x y × (x ≤ origin + 4096) ⌝ }
+    ensures { λ r. ⌜ Painted rows (lineStrokes s x y (lettersAt (now (ws .entry)) first letters))
+        window (now (part .entry)) (now (part .exit)) r ⌝ }
+{
+    let mut left = window;
+    let mut at = x;
+    let mut i = 0;
+    while i < letters {
+        let number = layout::number_at(ws, NUMBERS + 2 * (first + i));
+        left = draw_letter(
+            part,
+            rows,
+            regular,
+            bold,
+            upright,
+            slanted,
+            ws,
+            number,
+            s,
+            at,
+            y,
+            left,
+        );
+        at += BitmapFont::CELL_W as usize;
+        i += 1;
+    }
+    left
+}
+
+// Draws the lines of the workspace's table, so many, from the top down.
+fn draw_each_line(
+    part: &mut [u8],
+    rows: Rows,
+    regular: &[u8; 4096],
+    bold: &[u8; 4096],
+    upright: &[u8; 16],
+    slanted: &[u8; 16],
+    ws: &[u8],
+    s: Settings,
+    lines: usize,
+    window: Window,
+)
+    requires { ⌜ Lent (length (now part)) rows × Fonts (now regular) (now bold) (now upright) (now slanted)
+        × Readable (now ws) (lettersFrom (now ws) 0 lines) × InRange s × (lines ≤ 4097) ⌝ }
+    ensures { λ _. ⌜ now (part .exit) ≡ painted rows (cut window (strokesAt s (now (ws .entry)) 0 0 lines)) (now (part .entry)) ⌝ }
+{
+    let mut left = window;
+    let mut first = 0;
+    let mut i = 0;
+    while i < lines {
+        let letters = layout::number_at(ws, TABLE + 4 * i);
+        let x = layout::line_start(s, layout::measure_line(ws, i));
+        let y = layout::baseline(s, lines - 1 - i);
+        left = draw_line(
+            part,
+            rows,
+            regular,
+            bold,
+            upright,
+            slanted,
+            ws,
+            first,
+            letters,
+            s,
+            x,
+            y,
+            left,
+        );
+        first += letters;
+        i += 1;
+    }
+}
+
+// Draws the lines of the workspace. The tables are laid out here, once, and lent.
+pub fn draw_lines(part: &mut [u8], rows: Rows, ws: &[u8], s: Settings, lines: usize, window: Window)
+    requires { ⌜ Lent (length (now part)) rows × Readable (now ws) (lettersFrom (now ws) 0 lines) × InRange s × (lines ≤ 4097) ⌝ }
+    ensures { λ _. ⌜ now (part .exit) ≡ painted rows (cut window (strokesAt s (now (ws .entry)) 0 0 lines)) (now (part .entry)) ⌝ }
+{
+    let font = BitmapFont::default_regular();
+    let regular = font.table();
+    let heavy = BitmapFont::default_bold();
+    let bold = heavy.table();
+    let plain = Pen::new([0; 4], false, false);
+    let upright = plain.row_offsets();
+    let italic = Pen::new([0; 4], false, true);
+    let slanted = italic.row_offsets();
+    draw_each_line(
+        part,
+        rows,
+        &regular,
+        &bold,
+        &upright,
+        &slanted,
+        ws,
+        s,
+        lines,
+        window,
+    );
+}
