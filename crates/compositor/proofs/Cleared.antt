@@ -1,14 +1,13 @@
 -- Strokes on a picture that was cleared.
-use mathlib.Core.Path.{_≡_, _∙_, refl, sym, ap}
-use mathlib.Core.List.{List, [], _∷_, _++_, append-assoc}
-use Prim.Native.Nat.{ℕ, zero, suc, _+_, _*_, _≤_}
+use mathlib.Core.Path.{_≡_, _∙_, ap}
+use mathlib.Core.List.{List, _∷_, _++_, append-assoc}
+use Prim.Native.Nat.{ℕ, zero, suc, _+_, _*_}
 use native.Mathlib.Nat.{zero-mul, suc-mul, add-comm}
 use native.Mathlib.Omega.{arith}
-use lib.ListN.{length, take, drop, replicate, length-replicate, length-drop}
+use lib.ListN.{length, take, drop, replicate, length-replicate}
 use lib.Seq.{take-at, drop-at, drop-drop}
 use Rattle.font.specs.Stroke.{eachRow}
 use Rattle.compositor.specs.declared.Settings.{Settings}
-use Rattle.compositor.specs.declared.strokes.Rows.{Rows}
 use Rattle.compositor.specs.Settings.{rowBytes, pictureBytes}
 use Rattle.compositor.specs.Strokes.{Stroke}
 use Rattle.compositor.specs.Picture.{strokesOn, rowAfter, pictureAfter}

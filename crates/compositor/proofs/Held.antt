@@ -14,8 +14,7 @@ use Rattle.wrap.specs.Laid.{numbersFrom, tableFrom, twoAt, Holds, HoldsLines}
 use Rattle.wrap.proofs.Lists.{flatten-append}
 use Rattle.wrap.proofs.Bytes.{twos-at, table-at, part-two}
 use Rattle.compositor.specs.declared.Settings.{Settings}
-use Rattle.compositor.specs.Layout.{baseLine, lineWidth, lineStart}
-use Rattle.compositor.specs.Strokes.{lineStrokes, linesStrokes}
+use Rattle.compositor.specs.Strokes.{linesStrokes}
 use Rattle.compositor.specs.Read.{numberAt, lettersOn, columnsOn, lettersAt, lettersFrom, strokesAt, Readable}
 
 module _ (ls : List Letter) (r : List Line) (ws : List ℕ) (holds : Holds ls ws) (lines : HoldsLines ls r ws)

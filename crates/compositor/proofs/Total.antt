@@ -1,18 +1,16 @@
 -- THE LAW: T is the letters on lines times (1 + 8o).
-use mathlib.Core.Path.{_≡_, _∙_, refl, sym, ap, ap₂}
-use mathlib.Core.List.{List, [], _∷_, _++_, map, flatten}
-use Prim.Native.Nat.{ℕ, _+_, _-_, _*_, _≤_, min}
+use mathlib.Core.Path.{_≡_, _∙_, sym, ap, ap₂}
+use mathlib.Core.List.{List, [], _∷_, map, flatten}
+use Prim.Native.Nat.{ℕ, _+_, _-_, _*_, _≤_}
 use native.Mathlib.Nat.{zero-mul, suc-mul, add-mul, add-comm}
 use native.Mathlib.Omega.{arith}
 use lib.ListN.{length, length-append, length-map}
-use Rattle.font.specs.Font.{cellW, tableOf, glyphRows}
-use Rattle.font.specs.Slant.{rowOffsets}
 use Rattle.tape.specs.Runs.{Letter}
 use Rattle.wrap.specs.Lines.{Line, letterOf, visibleCols, wrapRuns}
 use Rattle.compositor.specs.declared.Settings.{Settings}
 use Rattle.compositor.specs.Layout.{columnLimit, baseLine, lineWidth, lineStart}
 use Rattle.compositor.specs.Outline.{outlineOf, ring}
-use Rattle.compositor.specs.Strokes.{Stroke, stroke, outlineStrokes, glyphStrokes, letterStrokes, lineStrokes, linesStrokes, drawing}
+use Rattle.compositor.specs.Strokes.{stroke, outlineStrokes, glyphStrokes, letterStrokes, lineStrokes, linesStrokes, drawing}
 use Rattle.compositor.proofs.Outlines.{ring-length}
 
 glyph-length : (glyph offsets k own : List ℕ) (o x base : ℕ) → o ≤ 2 → length (glyphStrokes glyph offsets k own o x base) ≡ 1 + 8 * o
@@ -30,8 +28,8 @@ module _ (s : Settings) where
   unfolding lineStrokes
   line-length x base [] = sym (zero-mul each)
   line-length x base (l ∷ ls) =
-      length-append (letterStrokes s l x base) (lineStrokes s (x + cellW) base ls)
-      ∙ ap₂ (λ (a b : ℕ). a + b) (glyph-length _ _ _ _ (outlineOf s) x base (omega arith)) (line-length (x + cellW) base ls)
+      length-append (letterStrokes s l x base) _
+      ∙ ap₂ (λ (a b : ℕ). a + b) (glyph-length _ _ _ _ (outlineOf s) x base (omega arith)) (line-length _ base ls)
       ∙ add-comm each (length ls * each)
       ∙ sym (suc-mul (length ls) each)
 

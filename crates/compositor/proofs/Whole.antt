@@ -13,8 +13,6 @@ use Rattle.wrap.specs.Lines.{Line, wrapRuns}
 use Rattle.wrap.specs.Laid.{Laid}
 use Rattle.wrap.proofs.Once.{known}
 use Rattle.compositor.specs.declared.Settings.{Settings}
-use Rattle.compositor.specs.declared.strokes.Rows.{Rows}
-use Rattle.compositor.specs.declared.strokes.Window.{Window}
 use Rattle.compositor.specs.Settings.{pictureBytes}
 use Rattle.compositor.specs.Layout.{columnLimit}
 use Rattle.compositor.specs.Outline.{outlineOf}

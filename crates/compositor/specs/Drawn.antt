@@ -3,7 +3,6 @@ use mathlib.Core.Path.{_≡_}
 use mathlib.Core.List.{List}
 use Prim.Native.Nat.{ℕ, _≤_}
 use lib.ListN.{length}
-use Rattle.tape.specs.Command.{mostLetters}
 use Rattle.tape.specs.Outcome.{Outcome, accepted, refused}
 use Rattle.tape.specs.Runs.{Letter}
 use Rattle.tape.specs.Tape.{leastRoom}

@@ -4,16 +4,12 @@ ghost use mathlib.Core.Bool.{cond};
 ghost use mathlib.Core.List.{[], _∷_};
 ghost use Prim.Native.Nat.{_+_, _-_, _*_, _≤_, _<_};
 ghost use lib.ListN.{length};
-ghost use Rattle.font.specs.Font.{tableOf, glyphRows, cellW};
-ghost use Rattle.font.specs.Slant.{rowOffsets};
+ghost use Rattle.font.specs.Font.{glyphRows};
 ghost use Rattle.font.specs.Stroke.{origin};
-ghost use Rattle.font.specs.Shear.{penOf};
 ghost use Rattle.tape.specs.Stored.{letterAt};
-ghost use Rattle.tape.specs.Command.{mostLetters};
-ghost use Rattle.tape.specs.Tape.{leastRoom};
-ghost use Rattle.compositor.specs.Outline.{onRing, ringRow, ring, outlineOf};
-ghost use Rattle.compositor.specs.Strokes.{stroke, outlineStrokes, glyphStrokes, letterStrokes, lineStrokes};
-ghost use Rattle.compositor.specs.Read.{numberAt, lettersAt, lettersFrom, strokesAt, Readable};
+ghost use Rattle.compositor.specs.Outline.{distance, onRing, ringRow, ring};
+ghost use Rattle.compositor.specs.Strokes.{stroke, outlineStrokes, letterStrokes, lineStrokes};
+ghost use Rattle.compositor.specs.Read.{lettersAt, lettersFrom, strokesAt, Readable};
 ghost use Rattle.compositor.specs.Painting.{Lent, Near, Fonts, cut, after, painted, Painted};
 ghost use Rattle.compositor.specs.Drawn.{InRange};
 use crate::Settings;
@@ -93,7 +89,7 @@ fn draw_stroke(
 }
 
 fn distance(o: usize, d: usize) -> usize
-    ensures { λ r. ⌜ r ≡ d - o + (o - d) ⌝ }
+    ensures { λ r. ⌜ r ≡ distance o d ⌝ }
 {
     if d < o { o - d } else { d - o }
 }

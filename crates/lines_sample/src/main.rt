@@ -74,22 +74,11 @@ fn print_lines(tape: &[u8], limit: usize, workspace: &mut [u8], letters: &mut [u
     }
 }
 
-// Where the entry ends that begins at a place; past the entries' end where it is cut short.
-fn entry_end(entries: &[u8], at: usize) -> usize
-    requires { ⌜ at < length (now entries) ⌝ }
-    ensures { λ r. ⌜ (r ≤ length (now (entries .entry)) → at + 4 ≤ r) ⌝ }
-{
-    if entries.len() - at < 4 {
-        return entries.len() + 1;
-    }
-    at + 4 + report::number_at(entries, at + 2)
-}
-
 // Wraps tape after tape; false where the sample is cut short.
 fn replay(entries: &[u8], workspace: &mut [u8], letters: &mut [u8]) -> bool {
     let mut at = 0;
     while at < entries.len() {
-        let end = entry_end(entries, at);
+        let end = report::entry_end(entries, at, 4);
         if entries.len() < end {
             return false;
         }

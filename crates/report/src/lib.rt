@@ -19,6 +19,18 @@ pub fn number_at(bytes: &[u8], at: usize) -> usize
     wide(bytes[at]) * 256 + wide(bytes[at + 1])
 }
 
+// Where the entry of a sample ends that begins at a place: behind a header, whose last two bytes are
+// the length of a tape, and the tape. Past the entries' end where it is cut short.
+pub fn entry_end(entries: &[u8], at: usize, header: usize) -> usize
+    requires { ⌜ (at < length (now entries)) × (2 ≤ header) × (header ≤ 65536) ⌝ }
+    ensures { λ r. ⌜ (r ≤ length (now (entries .entry)) → at + header ≤ r) ⌝ }
+{
+    if entries.len() - at < header {
+        return entries.len() + 1;
+    }
+    at + header + number_at(entries, at + header - 2)
+}
+
 // The digest d with more bytes: each in turn is added, plus one, to the digest times a prime.
 pub fn digest(d: u64, bytes: &[u8]) -> u64
     requires { ⌜ d < 0x1_0000_0000 ⌝ }

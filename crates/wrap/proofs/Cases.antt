@@ -12,7 +12,7 @@ use Rattle.wrap.specs.Lines.{Line, upFrom, withoutLast, visibleCols, log
 use Rattle.wrap.specs.Wrap.{wrapCall, twos, lineTable, lineBytes}
 
 -- at a limit of so many columns the tape makes these lines
-abbrev Makes : ℕ → List ℕ → List Line → Type 0
+abbrev pub Makes : ℕ → List ℕ → List Line → Type 0
 Makes limit tape lines = onAccepted (λ c. c .lines) (wrapCall limit leastRoom tape) ≡ accepted lines
 
 -- and the workspace begins with these numbers, in two bytes each

@@ -1,4 +1,3 @@
-use mathlib.Core.Path.{_∙_}
 use native.Mathlib.Omega.{arith}
 use Rattle.wrap.proofs.Answers.{lines-are, refusal-is}
 use borrow.Author.Needs.{needs}

@@ -1,4 +1,3 @@
-use mathlib.Core.Path.{refl}
 use borrow.Author.Needs.{needs}
 use Rattle.captions.proofs.settings.Statement.{statement}
 use Rattle.captions.proofs.settings.Tie as tie

@@ -1,7 +1,4 @@
-use mathlib.Core.Path.{_≡_, _∙_, sym, subst}
 use native.Mathlib.Omega.{arith}
-use lib.ListN.{length}
-use Rattle.wrap.specs.Laid.{Laid}
 use Rattle.compositor.proofs.Whole.{total-small, lines-readable, total-is, picture-is}
 use borrow.Author.Needs.{needs}
 use Rattle.compositor.proofs.draw_letters.Statement.{statement}

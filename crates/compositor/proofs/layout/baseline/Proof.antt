@@ -1,4 +1,3 @@
-use mathlib.Core.Path.{_≡_}
 use native.Mathlib.Omega.{arith}
 use Rattle.compositor.specs.Layout.{baseLine}
 use Rattle.compositor.proofs.Ranges.{rise}

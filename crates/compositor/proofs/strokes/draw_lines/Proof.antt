@@ -3,7 +3,6 @@ use Rattle.font.specs.declared.BitmapFont.{BitmapFont}
 use Rattle.font.specs.Font.{tableOf}
 use mathlib.Core.Path.{_∙_}
 use mathlib.Core.Bool.{true, false}
-use Rattle.font.specs.Shear.{Shear}
 use Rattle.font.proofs.Rounding.{leans-back, shear-of}
 use borrow.Author.Needs.{needs}
 use Rattle.compositor.proofs.strokes.draw_lines.Statement.{statement}

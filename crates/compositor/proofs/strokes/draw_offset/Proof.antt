@@ -1,9 +1,6 @@
-use mathlib.Core.Path.{_≡_, _∙_, sym, subst}
-use mathlib.Core.List.{List}
+use mathlib.Core.Path.{_∙_, sym}
 use native.Mathlib.Omega.{arith}
 use borrow.Author.Tests.{not-true, not-false}
-use Rattle.compositor.specs.Strokes.{Stroke, outlineStrokes}
-use Rattle.compositor.specs.Painting.{Painted}
 use Rattle.compositor.proofs.Painting.{nothing}
 use Rattle.compositor.proofs.Outlines.{one-on, one-off}
 use borrow.Author.Needs.{needs}

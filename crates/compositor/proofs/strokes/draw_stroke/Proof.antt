@@ -1,4 +1,3 @@
-use mathlib.Core.Path.{_≡_}
 use native.Mathlib.Omega.{arith}
 use Rattle.compositor.proofs.Painting.{passed, over, drawn}
 use borrow.Author.Needs.{needs}

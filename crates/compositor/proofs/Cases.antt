@@ -1,0 +1,160 @@
+-- DOCUMENT 01'S CASES a TO l, and some more: tapes and settings, and what the calls make of them, by computation.
+use mathlib.Core.Path.{_≡_, refl}
+use mathlib.Core.List.{List, [], _∷_, _++_, map, flatten}
+use Prim.Native.Nat.{ℕ, _+_, _-_, _*_}
+use lib.IntN.{negsuc}
+use lib.ListN.{length, getD, replicate}
+use Rattle.font.specs.Blend.{blendByte, blendAlpha, blendOver, blendPixel}
+use Rattle.font.specs.Font.{embolden, tabulate, regularTable}
+use Rattle.font.specs.Stroke.{origin, paintColumn, paintColumns, strokeRow}
+use Rattle.tape.specs.Outcome.{accepted, refused, onAccepted}
+use Rattle.tape.specs.Style.{sameStyle}
+use Rattle.tape.specs.Command.{codePoint, isLetter, isOpener, isScalar, added, faultOf, commandOf}
+use Rattle.tape.specs.Runs.{mergeInto, lettersOf}
+use Rattle.tape.specs.Tape.{leastRoom, read, tapeRuns, tapeLetters, tapeRead}
+use Rattle.tape.specs.Segments.{letterBytes, lettersBytes}
+use Rattle.wrap.specs.Lines.{Line, upFrom, withoutLast, visibleCols, logicalLines, tokenise, isSpaceToken, chunks, putChunks, place, putToken, putTokens, fill, wrapRuns}
+use Rattle.wrap.proofs.Cases as Wrap
+use Rattle.compositor.specs.declared.Settings.{Settings}
+use Rattle.compositor.specs.Settings.{outOfRange}
+use Rattle.compositor.specs.Layout.{lastBaseLine, baseLine, lineStart}
+use Rattle.compositor.specs.Outline.{ringRow, ringRows, ring}
+use Rattle.compositor.specs.Strokes.{Stroke, glyphStrokes, lineStrokes, linesStrokes, drawing}
+use Rattle.compositor.specs.Picture.{strokesOn, rowAfter}
+use Rattle.compositor.specs.Draw.{drawCall}
+use Rattle.compositor.specs.Plain.{plainStart}
+
+-- white letters with a black outline, in lines as high as a cell
+abbrev settings : ℕ → ℕ → ℕ → ℕ → ℕ → Settings
+settings width height margin outline align =
+    record {
+      width = width;
+      height = height;
+      «default_color» = 255 ∷ 255 ∷ 255 ∷ 255 ∷ [];
+      «outline_color» = 0 ∷ 0 ∷ 0 ∷ 255 ∷ [];
+      «line_height_px» = 0;
+      «bottom_margin_px» = margin;
+      «outline_px» = outline;
+      align = align;
+    }
+
+-- a picture without rows, L columns wide
+abbrev columns : ℕ → Settings
+columns L = settings (8 * L) 0 0 0 0
+
+-- at L columns the tape makes these lines, in a call of Wrap, and a call of Draw has a stroke for each letter on them
+abbrev Makes : ℕ → List ℕ → List Line → Type 0
+Makes L tape lines =
+    Wrap.Makes L tape lines × (onAccepted length (drawCall (columns L) leastRoom 0 tape) ≡ accepted (length (flatten lines)))
+
+abbrev Refuses : Settings → ℕ → List ℕ → ℕ → ℕ → Type 0
+Refuses s size tape number place = drawCall s leastRoom size tape ≡ refused number place
+
+-- what f tells of each stroke
+abbrev Strokes : {A : Type 0} → (Stroke → A) → Settings → ℕ → List ℕ → List A → Type 0
+Strokes f s size tape told = onAccepted (map f) (drawCall s leastRoom size tape) ≡ accepted told
+
+-- T
+abbrev Total : ℕ → List ℕ → ℕ → Type 0
+Total outline tape n = onAccepted length (drawCall (settings 32 0 0 outline 0) leastRoom 0 tape) ≡ accepted n
+
+abbrev AB : List ℕ
+AB = lettersBytes (0x41 ∷ 0x42 ∷ [])
+
+pub record Cases : Type 0 where
+  pub a : Makes 4 [] []
+  pub b : Makes 4 (lettersBytes (0x41 ∷ 0x42 ∷ 0x43 ∷ 0x44 ∷ [])) ((0 ∷ 1 ∷ 2 ∷ 3 ∷ []) ∷ [])
+  pub c : Makes 4 (lettersBytes (0x41 ∷ 0x42 ∷ 0x43 ∷ 0x44 ∷ 0x45 ∷ [])) ((0 ∷ 1 ∷ 2 ∷ 3 ∷ []) ∷ (4 ∷ []) ∷ [])
+  pub d :
+      Makes 4 (lettersBytes (0x41 ∷ 0x42 ∷ 0x43 ∷ 0x44 ∷ 0x45 ∷ 0x46 ∷ 0x47 ∷ 0x48 ∷ []) ++ (0x05 ∷ 0x02 ∷ 0x49 ∷ []))
+      ((0 ∷ 1 ∷ 2 ∷ 3 ∷ []) ∷ (4 ∷ 5 ∷ 6 ∷ 7 ∷ []) ∷ [] ∷ (9 ∷ []) ∷ [])
+  pub e : Makes 4 (lettersBytes (0x41 ∷ 0x42 ∷ 0x01 ∷ 0x43 ∷ 0x44 ∷ 0x45 ∷ [])) ((0 ∷ 1 ∷ 2 ∷ 3 ∷ []) ∷ (4 ∷ 5 ∷ []) ∷ [])
+  pub f : Makes 2 (lettersBytes (0x41 ∷ 0x20 ∷ 0x20 ∷ 0x42 ∷ [])) ((0 ∷ []) ∷ (3 ∷ []) ∷ [])
+  pub g :
+      Makes 3 (0x02 ∷ 0x58 ∷ 0x02 ∷ 0x20 ∷ 0x02 ∷ 0x41 ∷ 0x06 ∷ 0x01 ∷ 0x00 ∷ 0x02 ∷ 0x42 ∷ [])
+      ((0 ∷ 1 ∷ 2 ∷ []) ∷ (3 ∷ []) ∷ [])
+  pub g-without : Makes 3 (lettersBytes (0x58 ∷ 0x20 ∷ 0x41 ∷ 0x42 ∷ [])) ((0 ∷ []) ∷ (2 ∷ 3 ∷ []) ∷ [])
+  pub h : (blendByte 200 128 100 ≡ 150) × (blendAlpha 128 255 ≡ 255)
+  -- a column of 8 pixels on a picture of 5
+  pub i : (plainStart (settings 5 0 0 0 0) 8 ≡ negsuc 0) × (lineStart (settings 5 0 0 0 0) 8 ≡ origin - 1)
+  pub j : embolden 0x81 ≡ 0xc1
+  pub k-06 : Refuses (columns 4) 0 (0x06 ∷ []) 3 1
+  pub k-00 : Refuses (columns 4) 0 (0x00 ∷ []) 3 0
+  pub k-02 : Refuses (columns 4) 0 (0x02 ∷ []) 2 0
+  pub k-surrogate : Refuses (columns 4) 0 (0x04 ∷ 0x00 ∷ 0xd8 ∷ 0x00 ∷ []) 4 0
+  pub k-last : Total 0 (0x04 ∷ 0x10 ∷ 0xff ∷ 0xff ∷ []) 1
+  pub k-0c : Refuses (columns 4) 0 (0x0c ∷ []) 1 0
+  pub l : Total 0 AB 2 × Total 1 AB 18 × Total 2 AB 34 × Total 9 AB 34
+  -- the order: each letter's outline and then the letter
+  pub order :
+      Strokes (λ t. getD (t .color) 0 0) (settings 32 0 0 1 0) 0 AB
+      (0 ∷ 0 ∷ 0 ∷ 0 ∷ 0 ∷ 0 ∷ 0 ∷ 0 ∷ 255 ∷ 0 ∷ 0 ∷ 0 ∷ 0 ∷ 0 ∷ 0 ∷ 0 ∷ 0 ∷ 255 ∷ [])
+  -- an outline of 2 is not filled
+  pub ring-2 :
+      ring 2
+      ≡ (0, 0) ∷ (1, 0) ∷ (2, 0) ∷ (3, 0) ∷ (4, 0) ∷ (0, 1) ∷ (4, 1) ∷ (0, 2) ∷ (4, 2) ∷ (0, 3) ∷ (4, 3)
+      ∷ (0, 4) ∷ (1, 4) ∷ (2, 4) ∷ (3, 4) ∷ (4, 4) ∷ []
+  -- a control has a cell of its own
+  pub control-cell :
+      Strokes (λ t. t .x - origin) (settings 32 0 0 0 1) 0 (lettersBytes (0x41 ∷ 0x01 ∷ 0x42 ∷ [])) (8 ∷ 16 ∷ 24 ∷ [])
+  -- three lines: the last one's base line is 4 rows above the margin
+  pub base-lines :
+      Strokes (λ t. t .base - origin) (settings 8 60 10 0 1) 1920 (lettersBytes (0x41 ∷ 0x42 ∷ 0x43 ∷ [])) (14 ∷ 30 ∷ 46 ∷ [])
+  -- each subtraction stops at 0
+  pub stops :
+      (lastBaseLine (settings 8 10 3 0 0) ≡ 3)
+      × (lastBaseLine (settings 8 10 7 0 0) ≡ 0)
+      × (lastBaseLine (settings 8 10 0xffff_ffff 0 0) ≡ 0)
+  -- the five alignments of a line of 40 pixels
+  pub starts :
+      (lineStart (settings 101 0 0 0 0) 40 ≡ origin + 30)
+      × (lineStart (settings 101 0 0 0 1) 40 ≡ origin + 8)
+      × (lineStart (settings 101 0 0 0 2) 40 ≡ origin + 8)
+      × (lineStart (settings 101 0 0 0 3) 40 ≡ origin + 53)
+      × (lineStart (settings 101 0 0 0 4) 40 ≡ origin + 53)
+  -- what is refused first
+  pub range-first : Refuses (settings 4097 1 0 0 0) 0 (0x0c ∷ []) 8 0
+  pub height-range : Refuses (settings 1 4097 0 0 0) 0 (0x0c ∷ []) 8 0
+  pub align-range : Refuses (settings 1 1 0 0 5) 4 (0x0c ∷ []) 8 0
+  pub short-picture : Refuses (settings 2 3 0 0 0) 23 (0x0c ∷ []) 9 0
+  pub long-enough : Refuses (settings 2 3 0 0 0) 24 (0x0c ∷ []) 1 0
+  -- the A of a picture of one cell: its row 1 is 18 hexadecimal
+  pub row :
+      onAccepted (λ ts. rowAfter (settings 8 16 0 0 0) ts 1 1) (drawCall (settings 8 16 0 0 0) leastRoom 512 (0x02 ∷ 0x41 ∷ []))
+      ≡ accepted (replicate 12 0 ++ (replicate 8 255 ++ replicate 12 0))
+
+pub cases : Cases
+unfolding drawCall outOfRange drawing linesStrokes lineStrokes glyphStrokes ring ringRows ringRow lineStart baseLine rowAfter strokesOn strokeRow paintColumns paintColumn blendPixel blendOver blendByte blendAlpha tabulate regularTable wrapRuns visibleCols logicalLines tokenise isSpaceToken chunks putChunks place putToken putTokens fill withoutLast upFrom flatten tapeRead tapeLetters tapeRuns read faultOf commandOf codePoint isLetter isOpener isScalar added mergeInto lettersOf sameStyle letterBytes
+cases =
+    record {
+      a = (Wrap.cases .a, refl);
+      b = (Wrap.cases .b, refl);
+      c = (Wrap.cases .c, refl);
+      d = (Wrap.cases .d, refl);
+      e = (Wrap.cases .e, refl);
+      f = (Wrap.cases .f, refl);
+      g = (Wrap.cases .g, refl);
+      g-without = (Wrap.cases .g-without, refl);
+      h = (refl, refl);
+      i = (refl, refl);
+      j = refl;
+      k-06 = refl;
+      k-00 = refl;
+      k-02 = refl;
+      k-surrogate = refl;
+      k-last = refl;
+      k-0c = refl;
+      l = (refl, refl, refl, refl);
+      order = refl;
+      ring-2 = refl;
+      control-cell = refl;
+      base-lines = refl;
+      stops = (refl, refl, refl);
+      starts = (refl, refl, refl, refl, refl);
+      range-first = refl;
+      height-range = refl;
+      align-range = refl;
+      short-picture = refl;
+      long-enough = refl;
+      row = refl;
+    }
