@@ -349,6 +349,9 @@ pub fn draw_lines(part: &mut [u8], rows: Rows, ws: &[u8], s: Settings, lines: us
     requires { ⌜ Lent (length (now part)) rows × Readable (now ws) (lettersFrom (now ws) 0 lines) × InRange s × (lines ≤ 4097) ⌝ }
     ensures { λ _. ⌜ now (part .exit) ≡ painted rows (cut window (strokesAt s (now (ws .entry)) 0 0 lines)) (now (part .entry)) ⌝ }
 {
+    if lines == 0 {
+        return;
+    }
     let font = BitmapFont::default_regular();
     let regular = font.table();
     let heavy = BitmapFont::default_bold();

@@ -1,7 +1,7 @@
 //! The words of the command line.
 
 pub const USAGE: &str = "\
-usage: compare [--pictures N] [--tapes N] [--cues N] [--seed S]
+usage: compare [--pictures N] [--tapes N] [--cues N] [--frames N] [--seed S]
                                 compare the proved crates with the original
        compare specimen         write what the original draws for U+0000 to U+0100
        compare sample           write the tapes that the program `letters` reads
@@ -9,6 +9,9 @@ usage: compare [--pictures N] [--tapes N] [--cues N] [--seed S]
        compare lines-sample     write the limits and tapes that the program `lines_sample` reads
        compare lines-sample-answers
                                 write what the original makes of them
+       compare draw-sample      write the settings and tapes that the program `replay` reads
+       compare draw-sample-answers
+                                write what the original draws of them
        compare speed            write how long both take, and the ratio";
 
 #[derive(Debug, PartialEq)]
@@ -19,6 +22,8 @@ pub enum Command {
     SampleAnswers,
     LinesSample,
     LinesSampleAnswers,
+    DrawSample,
+    DrawSampleAnswers,
     Speed,
 }
 
@@ -28,6 +33,7 @@ pub struct Extent {
     pub pictures: u64,
     pub tapes: u64,
     pub cues: u64,
+    pub frames: u64,
     pub seed: u64,
 }
 
@@ -39,6 +45,8 @@ pub fn parse(words: &[String]) -> Option<Command> {
         [word] if word == "sample-answers" => return Some(Command::SampleAnswers),
         [word] if word == "lines-sample" => return Some(Command::LinesSample),
         [word] if word == "lines-sample-answers" => return Some(Command::LinesSampleAnswers),
+        [word] if word == "draw-sample" => return Some(Command::DrawSample),
+        [word] if word == "draw-sample-answers" => return Some(Command::DrawSampleAnswers),
         [word] if word == "speed" => return Some(Command::Speed),
         _ => {}
     }
@@ -46,6 +54,7 @@ pub fn parse(words: &[String]) -> Option<Command> {
         pictures: 200_000,
         tapes: 200_000,
         cues: 200_000,
+        frames: 200_000,
         seed: 1,
     };
     let (pairs, rest) = words.as_chunks::<2>();
@@ -54,6 +63,7 @@ pub fn parse(words: &[String]) -> Option<Command> {
             "--pictures" => extent.pictures = value.parse().ok()?,
             "--tapes" => extent.tapes = value.parse().ok()?,
             "--cues" => extent.cues = value.parse().ok()?,
+            "--frames" => extent.frames = value.parse().ok()?,
             "--seed" => extent.seed = value.parse().ok()?,
             _ => return None,
         }

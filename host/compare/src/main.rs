@@ -3,6 +3,7 @@
 mod args;
 mod count;
 mod digest;
+mod draw;
 mod fenced;
 mod font;
 mod hex;
@@ -41,8 +42,12 @@ fn main() -> ExitCode {
         Command::SampleAnswers => write(tape::sample::answers(&original).as_bytes()),
         Command::LinesSample => write(&wrap::sample::entries()),
         Command::LinesSampleAnswers => write(wrap::sample::answers(&original).as_bytes()),
+        Command::DrawSample => write(&draw::sample::entries()),
+        Command::DrawSampleAnswers => write(draw::sample::answers(&original).as_bytes()),
         Command::Speed => {
-            let tables = tape::speed::table(&original) + &wrap::speed::table(&original);
+            let tables = tape::speed::table(&original)
+                + &wrap::speed::table(&original)
+                + &draw::speed::tables(&original);
             write(tables.as_bytes())
         }
     }
@@ -55,6 +60,7 @@ fn compare(original: &Original, extent: Extent) -> ExitCode {
     let mut counts = font::compare(original, seed, extent.pictures);
     counts.extend(tape::compare(original, seed, extent.tapes));
     counts.extend(wrap::compare(original, seed, extent.cues));
+    counts.extend(draw::compare(original, seed, extent.frames));
     let (mut passed, mut failed) = (0, 0);
     for count in &counts {
         count.show();

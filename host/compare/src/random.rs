@@ -41,6 +41,19 @@ impl Random {
         self.next() as u8
     }
 
+    /// A color whose bytes are any, and often 0 or 255.
+    pub fn color(&mut self) -> [u8; 4] {
+        let mut color = [self.byte(), self.byte(), self.byte(), self.byte()];
+        for byte in &mut color {
+            match self.within(0..=7) {
+                0 => *byte = 0,
+                1 | 2 => *byte = 255,
+                _ => {}
+            }
+        }
+        color
+    }
+
     pub fn fill(&mut self, bytes: &mut [u8]) {
         for chunk in bytes.chunks_mut(8) {
             chunk.copy_from_slice(&self.next().to_le_bytes()[..chunk.len()]);

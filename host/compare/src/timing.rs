@@ -6,6 +6,8 @@ use std::time::{Duration, Instant};
 /// Runs of each, in turn, of which the best counts, and calls in a run.
 const RUNS: u32 = 100;
 const CALLS: u32 = 20;
+/// How long calls in turn go on.
+const SPAN: Duration = Duration::from_secs(2);
 
 /// A line of a table: how long each call takes, and the first over the second.
 pub fn line<T, U>(
@@ -26,7 +28,21 @@ pub fn line<T, U>(
     )
 }
 
-fn micros(time: Duration) -> f64 {
+/// The best time of each of several calls, which are numbered from 0 and made in turn.
+pub fn in_turn<const N: usize>(mut call: impl FnMut(usize)) -> [Duration; N] {
+    let mut best = [Duration::MAX; N];
+    let begin = Instant::now();
+    while begin.elapsed() < SPAN {
+        for (number, best) in best.iter_mut().enumerate() {
+            let start = Instant::now();
+            call(number);
+            *best = start.elapsed().min(*best);
+        }
+    }
+    best
+}
+
+pub fn micros(time: Duration) -> f64 {
     time.as_secs_f64() * 1e6
 }
 

@@ -1,9 +1,9 @@
 //! What the comparison asks of the original, where it is at hand.
 
-use crate::compositor;
+use crate::compositor::{self, Compositor};
 use crate::font::BitmapFont;
-use crate::{Line, Run};
-use oxideav_core::Segment;
+use crate::{Line, Run, Settings};
+use oxideav_core::{Segment, SubtitleCue};
 
 /// The original: its fonts, and the functions of its compositor. Only [`crate::original`] makes one.
 pub struct Original {
@@ -87,6 +87,17 @@ impl Original {
     /// How many lines there are: flattening and wrapping alone, for whoever takes the time.
     pub fn count_lines(&self, segments: &[Segment], color: [u8; 4], max_cols: usize) -> usize {
         compositor::count_lines(segments, color, max_cols)
+    }
+
+    /// Draws a cue, with no face, into a buffer that begins with the picture.
+    pub fn render_into(&self, settings: Settings, cue: &SubtitleCue, dst: &mut [u8]) {
+        let mut compositor = Compositor::new(settings.width, settings.height);
+        compositor.default_color = settings.default_color;
+        compositor.outline_color = settings.outline_color;
+        compositor.line_height_px = settings.line_height;
+        compositor.bottom_margin_px = settings.bottom_margin;
+        compositor.outline_px = settings.outline;
+        compositor.render_into(cue, dst);
     }
 }
 

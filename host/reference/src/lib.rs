@@ -25,6 +25,18 @@ pub fn original() -> Option<Original> {
     Original::find()
 }
 
+/// What the original's compositor is told. How lines are aligned the cue says.
+#[derive(Clone, Copy, Debug, PartialEq)]
+pub struct Settings {
+    pub width: u32,
+    pub height: u32,
+    pub default_color: [u8; 4],
+    pub outline_color: [u8; 4],
+    pub line_height: u32,
+    pub bottom_margin: u32,
+    pub outline: u32,
+}
+
 /// A run of letters in one style, as the original flattens segments to.
 #[derive(Clone, Debug, PartialEq)]
 pub struct Run {

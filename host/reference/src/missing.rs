@@ -1,7 +1,7 @@
 //! What stands in the original's place where it is missing: a type that has no value.
 
-use crate::{Line, Run};
-use oxideav_core::Segment;
+use crate::{Line, Run, Settings};
+use oxideav_core::{Segment, SubtitleCue};
 
 /// The original. There is none here, so no method of this type is ever called.
 pub enum Original {}
@@ -48,6 +48,11 @@ impl Original {
 
     /// How many lines there are, where the original is at hand.
     pub fn count_lines(&self, _segments: &[Segment], _color: [u8; 4], _max_cols: usize) -> usize {
+        match *self {}
+    }
+
+    /// Draws a cue, where the original is at hand.
+    pub fn render_into(&self, _settings: Settings, _cue: &SubtitleCue, _dst: &mut [u8]) {
         match *self {}
     }
 }

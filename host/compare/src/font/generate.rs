@@ -84,7 +84,7 @@ pub fn stroke(random: &mut Random, width: u32, height: u32) -> Stroke {
         ch: letter(random),
         bold: random.one_in(2),
         italic: random.one_in(2),
-        color: color(random),
+        color: random.color(),
         // A glyph is eight columns wide, of which the slant moves some by two; it has twelve rows
         // over its base line and four from there on.
         x: place(random, -9..=width - 1),
@@ -115,16 +115,4 @@ fn letter(random: &mut Random) -> char {
     };
     // A surrogate is no letter.
     char::from_u32(random.within_u32(codes)).unwrap_or(char::MAX)
-}
-
-fn color(random: &mut Random) -> [u8; 4] {
-    let mut color = [random.byte(), random.byte(), random.byte(), random.byte()];
-    for byte in &mut color {
-        match random.within(0..=7) {
-            0 => *byte = 0,
-            1 | 2 => *byte = 255,
-            _ => {}
-        }
-    }
-    color
 }

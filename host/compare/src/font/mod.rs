@@ -2,11 +2,11 @@
 
 mod generate;
 mod glyphs;
-mod picture;
+pub mod picture;
 mod proved;
 mod refusals;
 mod specimen;
-mod strokes;
+pub mod strokes;
 
 use crate::count::Count;
 use reference::Original;

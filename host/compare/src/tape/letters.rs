@@ -1,6 +1,7 @@
 //! Letters with their styles, and what a tape comes to.
 
 use crate::refusal::Refusal;
+use oxideav_core::Segment;
 use reference::Run;
 
 #[derive(Clone, Copy, Debug, PartialEq)]
@@ -49,4 +50,40 @@ pub fn of_runs(runs: &[Run]) -> Vec<Letter> {
         }
     }
     letters
+}
+
+/// Segments that have these letters, where the style around them has this color and no mark.
+pub fn segments(letters: &[Letter], color: [u8; 4]) -> Vec<Segment> {
+    let mut segments = Vec::new();
+    let mut before = None;
+    for run in letters.chunk_by(|_, next| !next.start) {
+        let style = run[0].style;
+        if before == Some(style) {
+            // An empty run of another style kept the two apart.
+            let bold = !style.bold;
+            segments.push(styled(Style { bold, ..style }, color, String::new()));
+        }
+        before = Some(style);
+        let text = run.iter().filter_map(|letter| char::from_u32(letter.code));
+        segments.push(styled(style, color, text.collect()));
+    }
+    segments
+}
+
+fn styled(style: Style, around: [u8; 4], text: String) -> Segment {
+    let mut segment = Segment::Text(text);
+    if style.bold {
+        segment = Segment::Bold(vec![segment]);
+    }
+    if style.italic {
+        segment = Segment::Italic(vec![segment]);
+    }
+    if style.color != around {
+        let [red, green, blue, _] = style.color;
+        segment = Segment::Color {
+            rgb: (red, green, blue),
+            children: vec![segment],
+        };
+    }
+    segment
 }

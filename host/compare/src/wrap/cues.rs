@@ -37,6 +37,17 @@ pub fn sized(random: &mut Random, letters: RangeInclusive<i64>) -> Cue {
     })
 }
 
+/// A cue that shows a text, cut by lists.
+pub fn of_text(random: &mut Random, text: &[char]) -> Cue {
+    written(random, |random| cut(random, text))
+}
+
+/// Segments with their shortest tape.
+pub fn shortest(segments: Vec<Segment>) -> Cue {
+    let tape = written::shortest(&segments);
+    Cue { segments, tape }
+}
+
 /// A cue whose one logical line has nearly as many letters as there may be.
 fn one_line(random: &mut Random) -> Cue {
     written(random, |random| {

@@ -4,9 +4,9 @@ use crate::count::Count;
 use crate::fenced::Fenced;
 use crate::random::Random;
 use crate::tape::segments::{MOST_LETTERS, each_letter};
-use crate::tape::{ROOM, limits, written};
+use crate::tape::{ROOM, limits};
 use crate::wrap::check;
-use crate::wrap::cues::Cue;
+use crate::wrap::cues::{self, Cue};
 use crate::wrap::lines::Line;
 use oxideav_core::Segment;
 use reference::Original;
@@ -19,23 +19,11 @@ pub fn compare(original: &Original) -> Count {
     let mut count = Count::new("lines at the limits");
     let mut workspace = Fenced::workspace(&mut Random::new(0, 0), ROOM);
     for (limit, segments, lines) in cases() {
-        let cue = shortest(segments);
+        let cue = cues::shortest(segments);
         count.check(check::cue(original, &cue, limit, &mut workspace).map(|_| ()));
         count.check(check::outcome(&cue.tape, limit, &mut workspace, &Ok(lines)));
     }
-    let long = LONG.into_iter().map(|(unit, last)| {
-        let mut text: String = unit.chars().cycle().take(MOST_LETTERS).collect();
-        if let Some(last) = last {
-            text.pop();
-            text.push(last);
-        }
-        shortest(each_letter(&text))
-    });
-    // Every code point that there is lies in one of the tape's own.
-    let tapes = limits::admitted()
-        .into_iter()
-        .map(|(segments, tape)| Cue { segments, tape });
-    for cue in long.chain(tapes) {
+    for cue in long() {
         for limit in LIMITS {
             count.check(check::cue(original, &cue, limit, &mut workspace).map(|_| ()));
         }
@@ -43,9 +31,21 @@ pub fn compare(original: &Original) -> Count {
     count
 }
 
-fn shortest(segments: Vec<Segment>) -> Cue {
-    let tape = written::shortest(&segments);
-    Cue { segments, tape }
+/// The cues with as many letters as there may be, and the tape's own at its limits: every code point
+/// that there is lies in one of these.
+pub fn long() -> impl Iterator<Item = Cue> {
+    let long = LONG.into_iter().map(|(unit, last)| {
+        let mut text: String = unit.chars().cycle().take(MOST_LETTERS).collect();
+        if let Some(last) = last {
+            text.pop();
+            text.push(last);
+        }
+        cues::shortest(each_letter(&text))
+    });
+    let tapes = limits::admitted()
+        .into_iter()
+        .map(|(segments, tape)| Cue { segments, tape });
+    long.chain(tapes)
 }
 
 /// What is repeated to 4,096 letters, and the letter that takes the last one's place.

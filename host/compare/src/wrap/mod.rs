@@ -2,9 +2,9 @@
 //! reading of document 01 of its own.
 
 mod check;
-mod cues;
+pub mod cues;
 mod kinds;
-mod limits;
+pub mod limits;
 mod lines;
 mod proved;
 mod reading;
@@ -39,7 +39,7 @@ pub fn compare(original: &Original, seed: u64, cues: u64) -> Vec<Count> {
 }
 
 /// The bytes of a workspace that is large enough: as few as there may be mostly.
-fn room(random: &mut Random) -> usize {
+pub fn room(random: &mut Random) -> usize {
     match random.within(0..=7) {
         0 => ROOM + 1,
         1 => ROOM + random.within(0..=5000) as usize,

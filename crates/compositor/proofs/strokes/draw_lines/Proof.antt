@@ -1,12 +1,17 @@
 use mathlib.Core.Path.{_∙_, ap}
+use mathlib.Core.Bool.{true, false}
 use Rattle.font.specs.declared.BitmapFont.{BitmapFont}
 use Rattle.font.specs.Font.{tableOf}
-use mathlib.Core.Path.{_∙_}
-use mathlib.Core.Bool.{true, false}
 use Rattle.font.proofs.Rounding.{leans-back, shear-of}
+use Rattle.compositor.specs.Read.{strokesAt}
+use Rattle.compositor.proofs.Painting.{nothing}
 use borrow.Author.Needs.{needs}
 use Rattle.compositor.proofs.strokes.draw_lines.Statement.{statement}
 use Rattle.compositor.proofs.strokes.draw_lines.Tie as tie
+
+returns : tie.Need-returns
+unfolding strokesAt
+returns c = let a = c .before .before .before .args in rw (c .if1 .taken) (nothing (a .rows) (a .window) (a .part .now) .paints)
 
 default-regular-requires : tie.Need-default-regular-requires
 default-regular-requires c κs = search needs
@@ -34,7 +39,7 @@ row-offsets-requires-2 c κs = rw (c .new2 .ensures) (shear-of _)
 
 draw-each-line-requires : tie.Need-draw-each-line-requires
 draw-each-line-requires c κs =
-    let s = c .before .before .before .before .before .before .before .before .before .before .before .before .before .before .before in (
+    let s = c .before .before .before .before .before .before .before .before .before .before .before .before .before .before .before .before in (
       s .pre .0,
       record {
         regular-is = c .before .before .before .before .before .before .before .before .before .before .before .table .ensures ∙ ap (λ (f : BitmapFont). tableOf (f .bold)) (c .before .before .before .before .before .before .before .before .before .before .before .before .default-regular .ensures);
@@ -50,13 +55,14 @@ draw-each-line-requires c κs =
 same-length : tie.Need-same-length
 same-length c = search needs
 
-returns : tie.Need-returns
-returns c = c .before .before .draw-each-line .ensures
+returns-2 : tie.Need-returns-2
+returns-2 c = c .before .before .draw-each-line .ensures
 
 pub draw-lines-spec : {M : Type 1} → statement M
 draw-lines-spec =
     tie.close
     (tie.spec
+    returns
     default-regular-requires
     table-requires
     default-bold-requires
@@ -67,4 +73,4 @@ draw-lines-spec =
     row-offsets-requires-2
     draw-each-line-requires
     same-length
-    returns)
+    returns-2)

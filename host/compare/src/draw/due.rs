@@ -1,0 +1,56 @@
+//! What is due of a call: the original's picture, or the refusal that document 01 asks for.
+
+use crate::draw::frame::{Drawn, Frame, Outcome};
+use crate::draw::settings::{ALIGNMENTS, LINE_HEIGHT_MAX, SIDE_MAX, Settings};
+use crate::refusal::Refusal;
+use crate::tape::letters::{self, segments};
+use crate::tape::{MOST_BYTES, ROOM, reading};
+use oxideav_core::SubtitleCue;
+use reference::Original;
+
+/// What the original draws of a cue over these bytes, with its letters on lines counted for the
+/// strokes.
+pub fn drawn(original: &Original, settings: &Settings, cue: &SubtitleCue, bytes: &[u8]) -> Drawn {
+    let mut bytes = bytes.to_vec();
+    original.render_into(settings.told(), cue, &mut bytes);
+    let lines = original.wrap(&cue.segments, settings.default_color, settings.limit());
+    let pieces = lines.iter().flat_map(|line| &line.pieces);
+    let letters: usize = pieces.map(|piece| piece.text.chars().count()).sum();
+    Drawn {
+        strokes: letters * settings.strokes(),
+        bytes,
+    }
+}
+
+/// What is due of a call of any kind. Where it is not refused, the original draws the letters that
+/// are read from its tape.
+pub fn of_frame(original: &Original, frame: &Frame) -> Outcome {
+    let settings = &frame.settings;
+    let letters = letters(frame)?;
+    let cue = SubtitleCue {
+        segments: segments(&letters, settings.default_color),
+        positioning: settings.positioning(false),
+    };
+    Ok(drawn(original, settings, &cue, &frame.bytes))
+}
+
+/// The letters of a call's tape, or the first thing that stops it.
+pub fn letters(frame: &Frame) -> letters::Outcome {
+    let settings = &frame.settings;
+    let refused = |number| Err(Refusal { number, place: 0 });
+    if settings.width > SIDE_MAX
+        || settings.height > SIDE_MAX
+        || settings.line_height > LINE_HEIGHT_MAX
+        || !ALIGNMENTS.contains(&settings.alignment)
+    {
+        refused(8)
+    } else if frame.bytes.len() < settings.area() {
+        refused(9)
+    } else if frame.tape.len() > MOST_BYTES {
+        refused(10)
+    } else if frame.room < ROOM {
+        refused(11)
+    } else {
+        reading::read(&frame.tape, settings.default_color)
+    }
+}

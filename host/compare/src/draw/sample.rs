@@ -1,0 +1,177 @@
+//! The sample that the proved program `replay` replays: settings and tapes, and what the original
+//! draws of them.
+
+use crate::digest::digest;
+use crate::draw::due;
+use crate::draw::frame::Frame;
+use crate::draw::generate;
+use crate::draw::settings::{LINE_HEIGHT_MAX, SIDE_MAX};
+use crate::random::Random;
+use crate::refusal::Refusal;
+use crate::tape::{ROOM, damage};
+use crate::wrap::cues::{self, Cue};
+use oxideav_core::{Segment, SubtitleCue};
+use reference::Original;
+use std::fmt::Write;
+
+const ENTRIES: u64 = 400;
+const SEED: u64 = 22;
+/// Of so many entries the last is refused, which makes twenty.
+const APART: u64 = 20;
+/// How long a tape may be, and one with a letter too many.
+const SHORT: usize = 400;
+const FULL: usize = 4200;
+/// What a buffer holds before the call.
+const FILLED: u8 = 0x5a;
+/// The outlines, which each alignment meets in turn.
+const OUTLINES: [u32; 4] = [1, 2, 0, 9];
+
+struct Entry {
+    frame: Frame,
+    due: Due,
+}
+
+enum Due {
+    /// What the original draws of the segments.
+    Drawn(Vec<Segment>),
+    Refused(Refusal),
+}
+
+/// The entries, one after the other: the settings in document 01's order, of which width and height
+/// have two bytes and the others four; two bytes of the picture's buffer's length and two of the
+/// tape's, high byte first; and the tape.
+pub fn entries() -> Vec<u8> {
+    let mut bytes = Vec::new();
+    for Entry { frame, .. } in all() {
+        let settings = &frame.settings;
+        for side in [settings.width, settings.height] {
+            bytes.extend((side as u16).to_be_bytes());
+        }
+        bytes.extend(settings.default_color);
+        bytes.extend(settings.outline_color);
+        for number in [
+            settings.line_height,
+            settings.bottom_margin,
+            settings.outline,
+            settings.alignment,
+        ] {
+            bytes.extend(number.to_be_bytes());
+        }
+        for length in [frame.bytes.len(), frame.tape.len()] {
+            bytes.extend((length as u16).to_be_bytes());
+        }
+        bytes.extend(frame.tape);
+    }
+    bytes
+}
+
+/// A line for each entry: its strokes and the digest of the buffer after it, or its refusal.
+pub fn answers(original: &Original) -> String {
+    let mut text = String::new();
+    for Entry { frame, due } in all() {
+        let _ = match due {
+            Due::Drawn(segments) => {
+                let cue = SubtitleCue {
+                    segments,
+                    positioning: frame.settings.positioning(false),
+                };
+                let drawn = due::drawn(original, &frame.settings, &cue, &frame.bytes);
+                let digest = digest(drawn.bytes);
+                writeln!(text, "{} {digest:08x}", drawn.strokes)
+            }
+            Due::Refused(Refusal { number, place }) => writeln!(text, "refused {number} {place}"),
+        };
+    }
+    text
+}
+
+fn all() -> impl Iterator<Item = Entry> {
+    (0..ENTRIES).map(|number| {
+        let mut random = Random::new(SEED, number);
+        if number % APART == APART - 1 {
+            refused(&mut random, number / APART)
+        } else {
+            drawn(&mut random, number)
+        }
+    })
+}
+
+fn drawn(random: &mut Random, number: u64) -> Entry {
+    let Cue { segments, tape } = loop {
+        let cue = if random.one_in(4) {
+            cues::sized(random, 0..=60)
+        } else {
+            generate::legible(random, 0..=60)
+        };
+        if cue.tape.len() <= SHORT {
+            break cue;
+        }
+    };
+    let mut frame = small(random, tape);
+    frame.settings.alignment = (number % 5) as u32;
+    frame.settings.outline = OUTLINES[(number / 7 % 4) as usize];
+    if !random.one_in(6) {
+        frame.settings.bottom_margin = random.within_u32(0..=12);
+    }
+    Entry {
+        frame,
+        due: Due::Drawn(segments),
+    }
+}
+
+/// A picture of at most 64,000 bytes, and now and then a few bytes behind it.
+fn small(random: &mut Random, tape: Vec<u8>) -> Frame {
+    let (widths, heights) = match random.within(0..=19) {
+        0 => (100..=160, 60..=100),
+        1 | 2 => (0..=20, 0..=40),
+        _ => (24..=100, 16..=60),
+    };
+    let (width, height) = (random.within_u32(widths), random.within_u32(heights));
+    let settings = generate::sized(random, width, height);
+    let behind = random.within(-20..=20).max(0) as usize;
+    Frame {
+        bytes: vec![FILLED; settings.area() + behind],
+        settings,
+        tape,
+        room: ROOM,
+    }
+}
+
+/// An entry that is refused: for its tape, each fault once and most twice, for a setting or for its
+/// buffer.
+fn refused(random: &mut Random, index: u64) -> Entry {
+    let number = match index {
+        0..7 => index as u32 + 1,
+        7..12 => index as u32 - 6,
+        12..18 => 8,
+        _ => 9,
+    };
+    loop {
+        let tape = damage::tape(random);
+        let mut frame = small(random, tape);
+        spoil(&mut frame, index);
+        let most = if number == 6 { FULL } else { SHORT };
+        if let Err(refusal) = due::letters(&frame)
+            && refusal.number == number
+            && frame.tape.len() <= most
+        {
+            let due = Due::Refused(refusal);
+            return Entry { frame, due };
+        }
+    }
+}
+
+fn spoil(frame: &mut Frame, index: u64) {
+    let settings = &mut frame.settings;
+    match index {
+        12 => settings.width = SIDE_MAX + 1,
+        13 => settings.height = SIDE_MAX + 1,
+        14 => settings.line_height = LINE_HEIGHT_MAX + 1,
+        15 => settings.alignment = 5,
+        16 => settings.alignment = u32::MAX,
+        17 => (settings.width, settings.height) = (u16::MAX.into(), u16::MAX.into()),
+        18 => frame.bytes.truncate(settings.area().saturating_sub(1)),
+        19 => frame.bytes.clear(),
+        _ => {}
+    }
+}

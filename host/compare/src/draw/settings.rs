@@ -1,0 +1,69 @@
+//! Document 01's settings, and where the original finds each.
+
+use oxideav_core::{Positioning, TextAlign};
+
+/// The most pixels of a side.
+pub const SIDE_MAX: u32 = 4096;
+/// The most pixels from one line to the next.
+pub const LINE_HEIGHT_MAX: u32 = 1024;
+/// The alignments, 0 center, 1 left, 2 start, 3 right, 4 end.
+pub const ALIGNMENTS: [u32; 5] = [0, 1, 2, 3, 4];
+/// The columns of a cell.
+const CELL_WIDTH: u32 = 8;
+
+#[derive(Clone, Copy, Debug)]
+pub struct Settings {
+    pub width: u32,
+    pub height: u32,
+    pub default_color: [u8; 4],
+    pub outline_color: [u8; 4],
+    pub line_height: u32,
+    pub bottom_margin: u32,
+    pub outline: u32,
+    pub alignment: u32,
+}
+
+impl Settings {
+    /// The bytes of the picture, or as many as can be counted.
+    pub fn area(&self) -> usize {
+        (self.width as usize)
+            .saturating_mul(self.height as usize)
+            .saturating_mul(4)
+    }
+
+    /// The column limit of its lines.
+    pub fn limit(&self) -> usize {
+        (self.width / CELL_WIDTH).max(1) as usize
+    }
+
+    /// The strokes of one letter.
+    pub fn strokes(&self) -> usize {
+        1 + 8 * self.outline.min(2) as usize
+    }
+
+    /// Those that the original's compositor is told.
+    pub fn told(&self) -> reference::Settings {
+        reference::Settings {
+            width: self.width,
+            height: self.height,
+            default_color: self.default_color,
+            outline_color: self.outline_color,
+            line_height: self.line_height,
+            bottom_margin: self.bottom_margin,
+            outline: self.outline,
+        }
+    }
+
+    /// What a cue says so that the original aligns its lines so: center is said, or left unsaid.
+    pub fn positioning(&self, unsaid: bool) -> Option<Positioning> {
+        let align = match self.alignment {
+            0 if unsaid => return None,
+            1 => TextAlign::Left,
+            2 => TextAlign::Start,
+            3 => TextAlign::Right,
+            4 => TextAlign::End,
+            _ => TextAlign::Center,
+        };
+        Some(Positioning { align })
+    }
+}
