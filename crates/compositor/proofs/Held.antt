@@ -10,12 +10,12 @@ use Rattle.tape.specs.Runs.{Letter}
 use Rattle.tape.specs.Stored.{letterAt}
 use Rattle.tape.specs.Tape.{leastRoom}
 use Rattle.wrap.specs.Lines.{Line, letterOf, visibleCols}
-use Rattle.wrap.specs.Laid.{numbersFrom, tableFrom, twoAt, Holds, HoldsLines}
+use Rattle.wrap.specs.Laid.{numbersFrom, tableFrom, twoAt, numberAt, lettersOn, columnsOn, Holds, HoldsLines}
 use Rattle.wrap.proofs.Lists.{flatten-append}
 use Rattle.wrap.proofs.Bytes.{twos-at, table-at, part-two}
 use Rattle.compositor.specs.declared.Settings.{Settings}
 use Rattle.compositor.specs.Strokes.{linesStrokes}
-use Rattle.compositor.specs.Read.{numberAt, lettersOn, columnsOn, lettersAt, lettersFrom, strokesAt, Readable}
+use Rattle.compositor.specs.Read.{lettersAt, lettersFrom, strokesAt, Readable}
 
 module _ (ls : List Letter) (r : List Line) (ws : List ℕ) (holds : Holds ls ws) (lines : HoldsLines ls r ws)
     (below : (j : ℕ) → j < length (flatten r) → getD (flatten r) j 0 < length ls) where

@@ -9,11 +9,12 @@ use Rattle.font.specs.Font.{cellW, tableOf, glyphRows}
 use Rattle.font.specs.Slant.{rowOffsets}
 use Rattle.tape.specs.Runs.{Letter}
 use Rattle.tape.specs.Stored.{letterAt}
+use Rattle.wrap.specs.Laid.{numberAt, lettersOn, columnsOn}
 use Rattle.compositor.specs.declared.Settings.{Settings}
 use Rattle.compositor.specs.Layout.{baseLine, lineWidth, lineStart}
 use Rattle.compositor.specs.Outline.{outlineOf}
 use Rattle.compositor.specs.Strokes.{Stroke, glyphStrokes, colorOf, letterStrokes, lineStrokes}
-use Rattle.compositor.specs.Read.{numberAt, lettersOn, columnsOn, lettersAt, lettersFrom, strokesAt, Readable}
+use Rattle.compositor.specs.Read.{lettersAt, lettersFrom, strokesAt, Readable}
 use Rattle.compositor.specs.Painting.{Fonts}
 
 -- ---- a letter

@@ -1,25 +1,15 @@
 -- Promises: the strokes of the lines that lie in the workspace, read back. No reader of the deposit needs this file.
 use mathlib.Core.List.{List, [], _∷_, _++_}
-use Prim.Native.Nat.{ℕ, zero, suc, _+_, _*_, _≤_, _<_}
+use Prim.Native.Nat.{ℕ, zero, suc, _+_, _≤_, _<_}
 use lib.ListN.{length}
 use Rattle.tape.specs.Command.{mostLetters}
 use Rattle.tape.specs.Runs.{Letter}
 use Rattle.tape.specs.Stored.{letterAt}
 use Rattle.tape.specs.Tape.{leastRoom}
-use Rattle.wrap.specs.Laid.{numbersFrom, tableFrom, twoAt}
+use Rattle.wrap.specs.Laid.{numberAt, lettersOn, columnsOn}
 use Rattle.compositor.specs.declared.Settings.{Settings}
 use Rattle.compositor.specs.Layout.{baseLine, lineWidth, lineStart}
 use Rattle.compositor.specs.Strokes.{Stroke, lineStrokes}
-
--- the number of the k-th letter on lines; the letters and the columns of line i
-abbrev pub numberAt : List ℕ → ℕ → ℕ
-numberAt ws k = twoAt ws (numbersFrom + 2 * k)
-
-abbrev pub lettersOn : List ℕ → ℕ → ℕ
-lettersOn ws i = twoAt ws (tableFrom + 4 * i)
-
-abbrev pub columnsOn : List ℕ → ℕ → ℕ
-columnsOn ws i = twoAt ws (tableFrom + 4 * i + 2)
 
 -- n letters on lines from the k-th on
 unfoldable pub lettersAt : List ℕ → ℕ → ℕ → List Letter

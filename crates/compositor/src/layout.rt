@@ -2,31 +2,15 @@
 ghost use mathlib.Core.Path.{_≡_};
 ghost use Prim.Native.Nat.{_+_, _-_, _*_, _≤_, _<_};
 ghost use lib.ListN.{length};
-ghost use Rattle.wrap.specs.Laid.{tableFrom, twoAt};
+ghost use Rattle.wrap.specs.Laid.{tableFrom, columnsOn};
 ghost use Rattle.compositor.specs.Layout.{columnLimit, lineHeight, lastBaseLine, baseLine, lineWidth, lineStart};
-ghost use Rattle.compositor.specs.Read.{columnsOn};
 ghost use Rattle.font.specs.Stroke.{origin};
 ghost use Rattle.compositor.specs.Drawn.{InRange};
 use crate::Settings;
 use font::BitmapFont;
 use font::ORIGIN;
-use wrap::TABLE;
 
 const SIDE_MARGIN: usize = 8;
-
-fn wide(x: u8) -> usize
-    ensures { λ r. ⌜ (r ≡ x) × (r < 256) ⌝ }
-{
-    x as usize
-}
-
-// The number in two bytes at a place, high byte first.
-pub fn number_at(ws: &[u8], at: usize) -> usize
-    requires { ⌜ at + 2 ≤ length (now ws) ⌝ }
-    ensures { λ r. ⌜ (r ≡ twoAt (now (ws .entry)) at) × (r < 65536) ⌝ }
-{
-    wide(ws[at]) * 256 + wide(ws[at + 1])
-}
 
 // The most columns of a line.
 pub fn column_limit(s: Settings) -> usize
@@ -50,7 +34,8 @@ fn line_height(s: Settings) -> usize
     s.line_height_px as usize
 }
 
-fn minus(a: u32, b: u32) -> u32
+// a less b, and 0 where b is the larger.
+pub fn minus(a: usize, b: usize) -> usize
     ensures { λ r. ⌜ r ≡ a - b ⌝ }
 {
     if a < b { 0 } else { a - b }
@@ -61,8 +46,11 @@ fn last_baseline(s: Settings) -> usize
     requires { ⌜ InRange s ⌝ }
     ensures { λ r. ⌜ (r ≡ lastBaseLine s) × (r ≤ 4096) ⌝ }
 {
-    let descent = BitmapFont::CELL_H - BitmapFont::BEARING_Y;
-    minus(minus(s.height, s.bottom_margin_px), descent) as usize
+    let descent = BitmapFont::CELL_H as usize - BitmapFont::BEARING_Y as usize;
+    minus(
+        minus(s.height as usize, s.bottom_margin_px as usize),
+        descent,
+    )
 }
 
 // The place of the base line of the line that has so many lines below it.
@@ -78,7 +66,7 @@ pub fn measure_line(ws: &[u8], line: usize) -> usize
     requires { ⌜ tableFrom + 4 * line + 4 ≤ length (now ws) ⌝ }
     ensures { λ r. ⌜ (r ≡ lineWidth (columnsOn (now (ws .entry)) line)) × (r < 0x8_0000) ⌝ }
 {
-    number_at(ws, TABLE + 4 * line + 2) * BitmapFont::CELL_W as usize
+    wrap::laid::columns_on(ws, line) * BitmapFont::CELL_W as usize
 }
 
 // Where a line of w pixels starts.

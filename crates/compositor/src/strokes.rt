@@ -17,8 +17,7 @@ use crate::layout;
 use font::BitmapFont;
 use font::Pen;
 use tape::letter;
-use wrap::NUMBERS;
-use wrap::TABLE;
+use wrap::laid;
 
 // The rows of a picture that are lent: `count` rows of `width` pixels, the first of which is the
 // picture's row `first`.
@@ -35,20 +34,14 @@ pub struct Window {
     pub to: usize,
 }
 
-fn minus(a: usize, b: usize) -> usize
-    ensures { λ r. ⌜ r ≡ a - b ⌝ }
-{
-    if a < b { 0 } else { a - b }
-}
-
 impl Window {
     // The window counted from the next stroke.
     fn next(self) -> Window
         ensures { λ r. ⌜ r ≡ after self 1 ⌝ }
     {
         Window {
-            from: minus(self.from, 1),
-            to: minus(self.to, 1),
+            from: layout::minus(self.from, 1),
+            to: layout::minus(self.to, 1),
         }
     }
 }
@@ -279,7 +272,7 @@ fn draw_line(
     let mut at = x;
     let mut i = 0;
     while i < letters {
-        let number = layout::number_at(ws, NUMBERS + 2 * (first + i));
+        let number = laid::number(ws, first + i);
         left = draw_letter(
             part,
             rows,
@@ -321,7 +314,7 @@ fn draw_each_line(
     let mut first = 0;
     let mut i = 0;
     while i < lines {
-        let letters = layout::number_at(ws, TABLE + 4 * i);
+        let letters = laid::letters_on(ws, i);
         let x = layout::line_start(s, layout::measure_line(ws, i));
         let y = layout::baseline(s, lines - 1 - i);
         left = draw_line(

@@ -22,6 +22,16 @@ tableFrom = 40960
 abbrev pub twoAt : List ℕ → ℕ → ℕ
 twoAt ws at = getD ws at 0 * 256 + getD ws (at + 1) 0
 
+-- the number of the k-th letter on lines; the letters and the columns of line i
+abbrev pub numberAt : List ℕ → ℕ → ℕ
+numberAt ws k = twoAt ws (numbersFrom + 2 * k)
+
+abbrev pub lettersOn : List ℕ → ℕ → ℕ
+lettersOn ws i = twoAt ws (tableFrom + 4 * i)
+
+abbrev pub columnsOn : List ℕ → ℕ → ℕ
+columnsOn ws i = twoAt ws (tableFrom + 4 * i + 2)
+
 -- the workspace holds these letters
 pub record Holds (ls : List Letter) (ws : List ℕ) : Type 0 where
   pub few : length ls ≤ mostLetters

@@ -1,8 +1,10 @@
 // Lines: the letters of a cue, which lie in a lent workspace, are put on lines by their numbers.
 // Carried over from `wrap_runs` of src/compositor.rs of oxideav-subtitle; what lines letters make is
 // in specs/. `ws` is the workspace throughout: letters from its start, the numbers of the letters on
-// lines from `NUMBERS`, two bytes each, and the table of lines from `TABLE`, four bytes each.
+// lines from `laid::NUMBERS`, two bytes each, and the table of lines from `laid::TABLE`, four bytes
+// each.
 mod fill;
+pub mod laid;
 mod line;
 mod token;
 
@@ -17,14 +19,9 @@ ghost use Rattle.tape.specs.Runs.{Letter};
 ghost use Rattle.tape.specs.Tape.{leastRoom};
 ghost use Rattle.wrap.specs.Lines.{Line, isEmptyLine, withoutLast};
 ghost use Rattle.wrap.specs.Wrap.{mostColumns, lineTable};
-ghost use Rattle.wrap.specs.Laid.{tableFrom, twoAt, Holds, Laid};
+ghost use Rattle.wrap.specs.Laid.{tableFrom, lettersOn, Holds, Laid};
 ghost use Rattle.wrap.specs.Wrapped.{Brought, Wrapped};
 use tape::Style;
-
-// Where the numbers of the letters on lines begin, and the table of lines.
-pub const NUMBERS: usize = 32768;
-
-pub const TABLE: usize = 40960;
 
 const MOST_COLUMNS: u32 = 4096;
 
@@ -44,13 +41,9 @@ pub enum Answer {
 
 fn is_empty_line(ws: &[u8], line: usize) -> bool
     requires { ⌜ tableFrom + 4 * line + 4 ≤ length (now ws) ⌝ }
-    ensures { λ r. ⌜ r ≡ eqb (twoAt (now (ws .entry)) (tableFrom + 4 * line)) 0 ⌝ }
+    ensures { λ r. ⌜ r ≡ eqb (lettersOn (now (ws .entry)) line) 0 ⌝ }
 {
-    let at = TABLE + 4 * line;
-    if ws[at] != 0 {
-        return false;
-    }
-    ws[at + 1] == 0
+    laid::letters_on(ws, line) == 0
 }
 
 // How many of these lines there are without the empty ones at their end.
@@ -99,8 +92,8 @@ fn bring_lines(ws: &mut [u8], count: usize, limit: usize) -> usize
 {
     let made = wrap_runs(ws, count, limit);
     let table = 4 * made.lines;
-    move_down(ws, TABLE, 0, table);
-    move_down(ws, NUMBERS, table, 2 * made.letters);
+    move_down(ws, laid::TABLE, 0, table);
+    move_down(ws, laid::NUMBERS, table, 2 * made.letters);
     made.lines
 }
 

@@ -13,8 +13,8 @@ ghost use Rattle.wrap.specs.Lines.{Filling, add, trimTrailingSpace};
 ghost use Rattle.wrap.specs.Wrap.{mostColumns, two, twos};
 ghost use Rattle.wrap.specs.Laid.{Holds};
 ghost use Rattle.wrap.specs.Filled.{between, added, Sane, Closed, Turns, Wide};
-use crate::NUMBERS;
-use crate::TABLE;
+use crate::laid::NUMBERS;
+use crate::laid::TABLE;
 use crate::token;
 
 fn put_two(ws: &mut [u8], at: usize, v: usize)

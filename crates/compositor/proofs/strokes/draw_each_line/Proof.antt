@@ -26,14 +26,8 @@ loop-holds c =
     let none : 0 + lettersFrom (a .ws .now) 0 (a .lines - 0) ≡ lettersFrom (a .ws .now) 0 (a .lines) = rw n (omega arith) in
     (omega arith, none, refl, begin _ _ _ _ (lines-begin (a .s) (a .ws .now) (a .lines)))
 
-mul-number-at : tie.Need-mul-number-at Inv-loop μ-loop
-mul-number-at c = let few = c .before .before .before .before .pre .4 in omega arith
-
-add-number-at : tie.Need-add-number-at Inv-loop μ-loop
-add-number-at c = let few = c .before .before .before .before .pre .4 in omega arith
-
-number-at-requires : tie.Need-number-at-requires Inv-loop μ-loop
-number-at-requires c κs = let few = c .before .before .before .before .pre .4 in let room = c .before .before .before .before .pre .2 .room in omega arith
+letters-on-requires : tie.Need-letters-on-requires Inv-loop μ-loop
+letters-on-requires c κs = let h = c .loop-test .taken in let few = c .before .before .before .before .pre .4 in let room = c .before .before .before .before .pre .2 .room in omega arith
 
 measure-line-requires : tie.Need-measure-line-requires Inv-loop μ-loop
 measure-line-requires c κs = let few = c .before .before .before .before .before .pre .4 in let room = c .before .before .before .before .before .pre .2 .room in let h = c .before .loop-test .taken in omega arith
@@ -55,7 +49,7 @@ draw-line-requires c κs =
     let s = c .before .before .before .before .before .before .before .before .before in
     let l = c .before .before .before .before .before .before .loop in
     let h = c .before .before .before .before .before .loop-test .taken in
-    let n = c .before .before .before .before .number-at .ensures .0 in
+    let n = c .before .before .before .before .letters-on .ensures in
     let x = c .before .before .line-start .ensures in
     let y = c .before .baseline .ensures in
     let left = x .1 in
@@ -75,7 +69,7 @@ add-first c =
     let s = c .before .before .before .before .before .before .before .before .before .before .before .before in
     let l = c .before .before .before .before .before .before .before .before .before .loop in
     let h = c .before .before .before .before .before .before .before .before .loop-test .taken in
-    let n = c .before .before .before .before .before .before .before .number-at .ensures .0 in
+    let n = c .before .before .before .before .before .before .before .letters-on .ensures in
     let on = letters-turn (s .args .ws .now) (s .args .lines) (l .i) h in
     let sum = l .inv .1 in
     let few = s .pre .2 .few in
@@ -92,7 +86,7 @@ loop-again c =
     let s = c .before .before .before .before .before .before .before .before .before .before .before .before in
     let l = c .before .before .before .before .before .before .before .before .before .loop in
     let h = c .before .before .before .before .before .before .before .before .loop-test .taken in
-    let n = c .before .before .before .before .before .before .before .number-at .ensures .0 in
+    let n = c .before .before .before .before .before .before .before .letters-on .ensures in
     let w = c .before .before .before .before .before .before .measure-line .ensures .0 in
     let x = c .before .before .before .before .before .line-start .ensures .0 in
     let y = c .before .before .before .before .baseline .ensures .0 in
@@ -124,9 +118,7 @@ draw-each-line-spec =
     Inv-loop
     μ-loop
     loop-holds
-    mul-number-at
-    add-number-at
-    number-at-requires
+    letters-on-requires
     measure-line-requires
     line-start-requires
     sub-baseline

@@ -26,17 +26,11 @@ loop-holds c =
     let a = c .before .before .args in
     (omega arith, omega arith, refl, begin _ _ _ _ (line-begin (a .s) (a .ws .now) (a .y) (a .first) (a .letters) (a .x)))
 
-add-number-at : tie.Need-add-number-at Inv-loop μ-loop
-add-number-at c = let few = c .before .before .before .before .pre .2 .few in omega arith
+add-number : tie.Need-add-number Inv-loop μ-loop
+add-number c = let few = c .before .before .before .before .pre .2 .few in omega arith
 
-mul-number-at : tie.Need-mul-number-at Inv-loop μ-loop
-mul-number-at c = let few = c .before .before .before .before .pre .2 .few in omega arith
-
-add-number-at-2 : tie.Need-add-number-at-2 Inv-loop μ-loop
-add-number-at-2 c = let few = c .before .before .before .before .pre .2 .few in omega arith
-
-number-at-requires : tie.Need-number-at-requires Inv-loop μ-loop
-number-at-requires c κs = let r = c .before .before .before .before .pre .2 in let few = r .few in let room = r .room in omega arith
+number-requires : tie.Need-number-requires Inv-loop μ-loop
+number-requires c κs = let r = c .before .before .before .before .pre .2 in let few = r .few in let room = r .room in omega arith
 
 draw-letter-requires : tie.Need-draw-letter-requires Inv-loop μ-loop
 draw-letter-requires c κs =
@@ -46,7 +40,7 @@ draw-letter-requires c κs =
     let r = s .pre .2 in
     let few = r .few in
     let room = r .room in
-    let n = c .before .number-at .ensures .0 in
+    let n = c .before .number .ensures in
     let known = r .known (s .args .first + l .i) (omega arith) in
     let near = s .pre .3 in
     let left = near .x-least in
@@ -79,7 +73,7 @@ loop-again c =
     let s = c .before .before .before .before .before .before .before .before .before in
     let l = c .before .before .before .before .before .before .loop in
     let h = c .before .before .before .before .before .loop-test .taken in
-    let n = c .before .before .before .before .number-at .ensures .0 in
+    let n = c .before .before .before .before .number .ensures in
     let d = c .before .before .draw-letter in
     let at = l .inv .1 in
     let fits : Lent (length (l .part)) (s .args .rows) = subst (λ (n : ℕ). Lent n (s .args .rows)) (sym (l .inv .2)) (s .pre .0) in (
@@ -105,10 +99,8 @@ draw-line-spec =
     Inv-loop
     μ-loop
     loop-holds
-    add-number-at
-    mul-number-at
-    add-number-at-2
-    number-at-requires
+    add-number
+    number-requires
     draw-letter-requires
     cast-at
     add-at

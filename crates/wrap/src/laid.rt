@@ -1,0 +1,47 @@
+// Lines where they lie in the workspace: the numbers of the letters on them, and the table.
+ghost use mathlib.Core.Path.{_≡_};
+ghost use Prim.Native.Nat.{_+_, _*_, _≤_, _<_};
+ghost use lib.ListN.{length};
+ghost use Rattle.wrap.specs.Laid.{numbersFrom, tableFrom, twoAt, numberAt, lettersOn, columnsOn};
+
+pub const NUMBERS: usize = 32768;
+
+pub const TABLE: usize = 40960;
+
+fn wide(x: u8) -> usize
+    ensures { λ r. ⌜ (r ≡ x) × (r < 256) ⌝ }
+{
+    x as usize
+}
+
+// A number in two bytes, high byte first.
+fn two_at(ws: &[u8], at: usize) -> usize
+    requires { ⌜ at + 2 ≤ length (now ws) ⌝ }
+    ensures { λ r. ⌜ (r ≡ twoAt (now (ws .entry)) at) × (r < 65536) ⌝ }
+{
+    wide(ws[at]) * 256 + wide(ws[at + 1])
+}
+
+// The number of the k-th letter on lines.
+pub fn number(ws: &[u8], k: usize) -> usize
+    requires { ⌜ numbersFrom + 2 * k + 2 ≤ length (now ws) ⌝ }
+    ensures { λ r. ⌜ r ≡ numberAt (now (ws .entry)) k ⌝ }
+{
+    two_at(ws, NUMBERS + 2 * k)
+}
+
+// How many letters a line has.
+pub fn letters_on(ws: &[u8], line: usize) -> usize
+    requires { ⌜ tableFrom + 4 * line + 4 ≤ length (now ws) ⌝ }
+    ensures { λ r. ⌜ r ≡ lettersOn (now (ws .entry)) line ⌝ }
+{
+    two_at(ws, TABLE + 4 * line)
+}
+
+// How many columns a line has.
+pub fn columns_on(ws: &[u8], line: usize) -> usize
+    requires { ⌜ tableFrom + 4 * line + 4 ≤ length (now ws) ⌝ }
+    ensures { λ r. ⌜ (r ≡ columnsOn (now (ws .entry)) line) × (r < 65536) ⌝ }
+{
+    two_at(ws, TABLE + 4 * line + 2)
+}
