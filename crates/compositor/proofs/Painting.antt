@@ -141,7 +141,8 @@ module _ (rows : Rows) where
         → Painted rows (t ∷ []) w part (eachRow (strokeOn t) (4 * rows .width) (rows .count) (rows .first) part) (after w 1)
     unfolding strokesOn
     drawn f h =
-        record { paints = ap (λ (ts : List Stroke). painted rows ts part) (sym (ap (λ (a : ℕ). slice a (w .to) (t ∷ [])) f ∙ whole (w .to) h)); counts = refl }
+        let one : cut w (t ∷ []) ≡ t ∷ [] = ap (λ (a : ℕ). slice a (w .to) (t ∷ [])) f ∙ whole (w .to) h in
+        record { paints = ap (λ (ts : List Stroke). painted rows ts part) (sym one); counts = refl }
       where
         whole : (b : ℕ) → 0 < b → take b (t ∷ []) ≡ t ∷ []
         whole zero k = absurd (omega arith)

@@ -27,7 +27,10 @@ enum-known-number : tie.Need-enum-known-number
 enum-known-number c = search needs
 
 refusal-requires : tie.Need-refusal-requires
-refusal-requires c κs = let near = refusal-is (drawn (c .before .before .before .before .before .before .before)) (c .before .number .given .1) .near in omega arith
+refusal-requires c κs =
+    let after-render-into = c .before .before .before .before .before .before .before in
+    let near = refusal-is (drawn after-render-into) (c .before .number .given .1) .near in
+    omega arith
 
 same-length : tie.Need-same-length
 same-length c = search needs
@@ -37,7 +40,8 @@ same-length-2 c = search needs
 
 returns : tie.Need-returns
 returns c =
-    let d = drawn (c .before .before .before .before .before .before .before) in
+    let after-render-into = c .before .before .before .before .before .before .before in
+    let d = drawn after-render-into in
     let a = strokes-are d (c .before .strokes .given .1) in
     record { answers = rw (a .means) (a .count-is); paints = d .paints; leaves = d .leaves }
 
@@ -49,8 +53,10 @@ same-length-4 c = search needs
 
 returns-2 : tie.Need-returns-2
 returns-2 c =
-    let d = drawn (c .before .before .before .before .before .before .before .before) in
-    record { answers = rw (refusal-is d (c .before .before .number .given .1) .means) (c .refusal .ensures); paints = d .paints; leaves = d .leaves }
+    let after-number = c .before .before in
+    let after-render-into = after-number .before .before .before .before .before .before in
+    let d = drawn after-render-into in
+    record { answers = rw (refusal-is d (after-number .number .given .1) .means) (c .refusal .ensures); paints = d .paints; leaves = d .leaves }
 
 pub captions-draw-spec : {M : Type 1} → statement M
 captions-draw-spec =

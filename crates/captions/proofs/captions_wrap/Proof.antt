@@ -14,14 +14,17 @@ enum-known-number : tie.Need-enum-known-number
 enum-known-number c = search needs
 
 refusal-requires : tie.Need-refusal-requires
-refusal-requires c κs = let near = refusal-is (c .before .before .before .before .before .wrap .ensures) (c .before .number .given .1) .near in omega arith
+refusal-requires c κs =
+    let after-wrap = c .before .before .before .before .before in
+    let near = refusal-is (after-wrap .wrap .ensures) (c .before .number .given .1) .near in omega arith
 
 same-length : tie.Need-same-length
 same-length c = search needs
 
 returns : tie.Need-returns
 returns c =
-    let w = c .before .before .before .before .before .wrap .ensures in
+    let after-wrap = c .before .before .before .before .before in
+    let w = after-wrap .wrap .ensures in
     let a = lines-are w (c .before .lines .given .1) in
     record { answers = rw (a .means) (a .count); leaves = w .leaves }
 
@@ -30,8 +33,10 @@ same-length-2 c = search needs
 
 returns-2 : tie.Need-returns-2
 returns-2 c =
-    let w = c .before .before .before .before .before .before .wrap .ensures in
-    record { answers = rw (refusal-is w (c .before .before .number .given .1) .means) (c .refusal .ensures); leaves = w .leaves }
+    let after-number = c .before .before in
+    let after-wrap = after-number .before .before .before .before in
+    let w = after-wrap .wrap .ensures in
+    record { answers = rw (refusal-is w (after-number .number .given .1) .means) (c .refusal .ensures); leaves = w .leaves }
 
 pub captions-wrap-spec : {M : Type 1} → statement M
 captions-wrap-spec =

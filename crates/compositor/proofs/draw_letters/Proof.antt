@@ -27,8 +27,10 @@ add-total c = let o = c .outline .ensures .1 in omega arith
 
 mul-total-2 : tie.Need-mul-total-2
 mul-total-2 c =
-    let e = c .before .before .before .before .before .before .before .before .before .pre in
-    let w = c .before .before .before .before .wrap-runs in
+    let after-wrap-runs = c .before .before .before .before in
+    let start = after-wrap-runs .before .before .before .before .before in
+    let e = start .pre in
+    let w = after-wrap-runs .wrap-runs in
     let letters = w .ensures .1 in
     let n = e .count-is in
     let few = e .holds .few in
@@ -36,10 +38,14 @@ mul-total-2 c =
     omega arith
 
 picture-bytes-requires : tie.Need-picture-bytes-requires
-picture-bytes-requires c κs = c .before .before .before .before .before .before .before .before .before .before .pre .range
+picture-bytes-requires c κs =
+    let start = c .before .before .before .before .before .before .before .before .before .before in
+    start .pre .range
 
 clear-requires : tie.Need-clear-requires
-clear-requires c κs = rw (c .picture-bytes .ensures) (c .before .before .before .before .before .before .before .before .before .before .before .pre .fits)
+clear-requires c κs =
+    let start = c .before .before .before .before .before .before .before .before .before .before .before in
+    rw (c .picture-bytes .ensures) (start .pre .fits)
 
 cast-t13 : tie.Need-cast-t13
 cast-t13 c = search needs
@@ -49,15 +55,17 @@ cast-t11 c = search needs
 
 draw-lines-requires : tie.Need-draw-lines-requires
 draw-lines-requires c κs =
-    let s = c .before .before .before .before .before .before .before .before .before .before .before .before .before .before .before .before .before .before in
+    let after-clear = c .before .before .before .before .before .before in
+    let after-wrap-runs = after-clear .before .before .before .before .before .before .before in
+    let s = after-wrap-runs .before .before .before .before .before in
     let e = s .pre in
     let n = e .count-is in
     let few = e .holds .few in
-    let w = c .before .before .before .before .before .before .before .before .before .before .before .before .before .wrap-runs in
+    let w = after-wrap-runs .wrap-runs in
     let lines = w .ensures .0 in
     let letters = w .ensures .1 in
     let room = e .room in
-    let long = c .before .before .before .before .before .before .clear .kept .0 in
+    let long = after-clear .clear .kept .0 in
     let kept = w .kept .0 in
     let fits = e .fits in (
       record { narrow = e .range .narrow; short = e .range .low; high = omega arith; long = omega arith },
@@ -74,13 +82,19 @@ same-length-2 c = search needs
 
 returns : tie.Need-returns
 returns c =
-    let s = c .before .before .before .before .before .before .before .before .before .before .before .before .before .before .before .before .before .before .before .before .before in
-    let w = c .before .before .before .before .before .before .before .before .before .before .before .before .before .before .before .before .wrap-runs in
-    let limit = c .before .before .before .before .before .before .before .before .before .before .before .before .before .before .before .before .before .column-limit .ensures .0 in
-    let outline = c .before .before .before .before .before .before .before .before .before .before .before .before .before .outline .ensures .0 in
-    let size = c .before .before .before .before .before .before .before .before .before .before .picture-bytes .ensures in
-    let cleared = c .before .before .before .before .before .before .before .before .before .clear .ensures in
-    let drawn = c .before .before .draw-lines .ensures in
+    let after-draw-lines = c .before .before in
+    let after-clear = after-draw-lines .before .before .before .before .before .before .before in
+    let after-picture-bytes = after-clear .before in
+    let after-outline = after-picture-bytes .before .before .before in
+    let after-wrap-runs = after-outline .before .before .before in
+    let after-column-limit = after-wrap-runs .before in
+    let s = after-column-limit .before .before .before .before in
+    let w = after-wrap-runs .wrap-runs in
+    let limit = after-column-limit .column-limit .ensures .0 in
+    let outline = after-outline .outline .ensures .0 in
+    let size = after-picture-bytes .picture-bytes .ensures in
+    let cleared = after-clear .clear .ensures in
+    let drawn = after-draw-lines .draw-lines .ensures in
     λ ls n holds.
     let laid = w .ensures .2 ls n holds in
     (total-is laid (s .args .s) limit _ outline, picture-is laid (s .args .s) limit _ _ _ _ (rw size at cleared) drawn)

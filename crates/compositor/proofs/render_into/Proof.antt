@@ -33,7 +33,8 @@ is-out-of-range-requires c κs = search needs
 
 returns : tie.Need-returns
 returns c =
-    let a = c .before .before .before .before .before .args in
+    let start = c .before .before .before .before .before in
+    let a = start .args in
     out-of-range (a .s) _ _ _ (sym (c .before .is-out-of-range .ensures) ∙ c .if1 .taken)
 
 picture-bytes-requires : tie.Need-picture-bytes-requires
@@ -41,9 +42,11 @@ picture-bytes-requires c κs = in-range _ (fine c)
 
 returns-2 : tie.Need-returns-2
 returns-2 c =
-    let a = c .before .before .before .before .before .before .before .args in
+    let admitted = c .before .before in
+    let start = admitted .before .before .before .before .before in
+    let a = start .args in
     let size = c .before .picture-bytes .ensures in
-    short-picture (a .s) _ _ _ (fine (c .before .before)) (rw size at (c .if2 .taken))
+    short-picture (a .s) _ _ _ (fine admitted) (rw size at (c .if2 .taken))
 
 default-with-requires : tie.Need-default-with-requires
 default-with-requires c κs = search needs
@@ -56,14 +59,15 @@ enum-known-count c = search needs
 
 draw-letters-requires : tie.Need-draw-letters-requires
 draw-letters-requires c κs =
-    let s = c .before .before .before .before .before .before .before .before .before .before .before .before .before .before .before .before .before .before in
-    let q = c .before .before .before .before .before .before .before in
-    let a = letters-are (read q) (c .before .before .before .count .given .1) in
+    let after-count = c .before .before .before in
+    let q = after-count .before .before .before .before in
+    let admitted = q .before .before .before .before in
+    let a = letters-are (read q) (after-count .count .given .1) in
     let n = q .read-tape .kept .1 .0 in
     let room = a .room in
     record {
-      range = in-range _ (fine (q .before .before .before .before .before .before));
-      fits = fits (q .before .before .before .before);
+      range = in-range _ (fine (admitted .before .before));
+      fits = fits admitted;
       room = omega arith;
       letters = a .letters;
       count-is = a .count;
@@ -81,21 +85,26 @@ same-length-2 c = search needs
 
 returns-3 : tie.Need-returns-3
 returns-3 c =
-    let s = c .before .before .before .before .before .before .before .before .before .before .before .before .before .before .before .before .before .before .before .before .before .before .before .args in
-    let q = c .before .before .before .before .before .before .before .before .before .before .before .before in
-    let a = letters-are (read q) (c .before .before .before .before .before .before .before .before .count .given .1) in
-    let d = c .before .before .before .before .draw-letters in
+    let after-draw-letters = c .before .before .before .before in
+    let after-count = after-draw-letters .before .before .before .before in
+    let q = after-count .before .before .before .before in
+    let admitted = q .before .before .before .before in
+    let s = admitted .before .before .before .before .before .before .before .args in
+    let a = letters-are (read q) (after-count .count .given .1) in
+    let d = after-draw-letters .draw-letters in
     let r = d .ensures (a .letters) (a .count) (letters-held a) in
-    drew (s .s) (s .tape .now) (s .ws .now) (s .picture .now) (fine (q .before .before .before .before .before .before)) (fits (q .before .before .before .before)) a (d .result) (r .0) (r .1)
+    drew (s .s) (s .tape .now) (s .ws .now) (s .picture .now) (fine (admitted .before .before)) (fits admitted) a (d .result) (r .0) (r .1)
 
 same-length-3 : tie.Need-same-length-3
 same-length-3 c = search needs
 
 returns-4 : tie.Need-returns-4
 returns-4 c =
-    let s = c .before .before .before .before .before .before .before .before .before .before .before .before .before .before .before .before .args in
     let q = c .before .before .before .before .before in
-    tape-refused (s .s) (s .tape .now) (s .ws .now) (s .picture .now) (fine (q .before .before .before .before .before .before)) (fits (q .before .before .before .before)) (refusal-is (read q) (c .before .number .given .1))
+    let admitted = q .before .before .before .before in
+    let s = admitted .before .before .before .before .before .before .before .args in
+    tape-refused (s .s) (s .tape .now) (s .ws .now) (s .picture .now) (fine (admitted .before .before)) (fits admitted)
+    (refusal-is (read q) (c .before .number .given .1))
 
 pub render-into-spec : {M : Type 1} → statement M
 render-into-spec =

@@ -43,29 +43,43 @@ part-print-picture-end c = search needs
 
 print-picture-requires : tie.Need-print-picture-requires Inv-loop μ-loop
 print-picture-requires c κs =
-    let h = far (c .before .before .before) in
-    let l = c .before .before .before .if1 .left in
-    let n = c .before .before .before .before .before .before .loop .inv .2 in
-    let p = c .before .before .before .before .before .before .before .before .before .before .pre in
+    let branch1 = c .before .before .before in
+    let at-loop = branch1 .before .before .before in
+    let start = at-loop .before .before .before .before in
+    let h = far (branch1) in
+    let l = branch1 .if1 .left in
+    let n = at-loop .loop .inv .2 in
+    let p = start .pre in
     (search needs, omega arith)
 
 same-length-3 : tie.Need-same-length-3 Inv-loop μ-loop
-same-length-3 c = c .before .before .before .before .before .print-picture .kept .1 .0 ∙ c .before .before .before .before .before .before .before .before .before .before .before .before .loop .inv .1
+same-length-3 c =
+    let after-print-picture = c .before .before .before .before .before in
+    let at-loop = after-print-picture .before .before .before .before .before .before .before in
+    after-print-picture .print-picture .kept .1 .0 ∙ at-loop .loop .inv .1
 
 same-length-4 : tie.Need-same-length-4 Inv-loop μ-loop
-same-length-4 c = c .before .before .before .before .before .print-picture .kept .1 .1 .0 ∙ c .before .before .before .before .before .before .before .before .before .before .before .before .loop .inv .2
+same-length-4 c =
+    let after-print-picture = c .before .before .before .before .before in
+    let at-loop = after-print-picture .before .before .before .before .before .before .before in
+    after-print-picture .print-picture .kept .1 .1 .0 ∙ at-loop .loop .inv .2
 
 returns-2 : tie.Need-returns-2 Inv-loop μ-loop
 returns-2 c = tt
 
 loop-less : tie.Need-loop-less Inv-loop μ-loop
-loop-less c = let h = far (c .before .before .before .before .before .before .before .before .before) in let l = c .before .before .before .before .before .before .before .before .before .if1 .left in omega arith
+loop-less c =
+    let branch1 = c .before .before .before .before .before .before .before .before .before in
+    let h = far (branch1) in let l = branch1 .if1 .left in omega arith
 
 loop-again : tie.Need-loop-again Inv-loop μ-loop
 loop-again c =
-    let p = c .before .before .before .before .before .print-picture in
-    let l = c .before .before .before .before .before .before .before .before .before .before .before .before .loop in
-    (c .before .before .before .before .before .before .before .before .before .if1 .left, p .kept .1 .0 ∙ l .inv .1, p .kept .1 .1 .0 ∙ l .inv .2)
+    let after-print-picture = c .before .before .before .before .before in
+    let branch1 = after-print-picture .before .before .before .before in
+    let at-loop = branch1 .before .before .before in
+    let p = after-print-picture .print-picture in
+    let l = at-loop .loop in
+    (branch1 .if1 .left, p .kept .1 .0 ∙ l .inv .1, p .kept .1 .1 .0 ∙ l .inv .2)
 
 same-length-5 : tie.Need-same-length-5 Inv-loop μ-loop
 same-length-5 c = c .before .loop .inv .1

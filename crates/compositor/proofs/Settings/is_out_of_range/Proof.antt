@@ -17,7 +17,10 @@ returns-3 c = rw (le-ltb _ _ (c .before .before .before .before .if1 .left), le-
 
 returns-4 : tie.Need-returns-4
 unfolding outOfRange
-returns-4 c = rw (le-ltb _ _ (c .before .before .before .before .before .if1 .left), le-ltb _ _ (c .before .before .before .if2 .left), le-ltb _ _ (c .before .if3 .left))
+returns-4 c =
+    let branch2 = c .before .before .before in
+    let branch1 = branch2 .before .before in
+    rw (le-ltb _ _ (branch1 .if1 .left), le-ltb _ _ (branch2 .if2 .left), le-ltb _ _ (c .before .if3 .left))
 
 pub is-out-of-range-spec : {M : Type 1} → statement M
 is-out-of-range-spec = tie.close (tie.spec returns returns-2 returns-3 returns-4)

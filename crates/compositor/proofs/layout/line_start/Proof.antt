@@ -16,14 +16,18 @@ sub-result-2 c = search needs
 
 returns : tie.Need-returns
 unfolding lineStart
-returns c = let n = c .before .before .before .before .pre .0 .narrow in (rw (eq-eqb _ _ (c .before .if1 .taken)) (omega arith), omega arith, omega arith)
+returns c =
+    let n = c .before .before .before .before .pre .0 .narrow in
+    (rw (eq-eqb _ _ (c .before .if1 .taken)) (omega arith), omega arith, omega arith)
 
 add-result : tie.Need-add-result
 add-result c = search needs
 
 returns-2 : tie.Need-returns-2
 unfolding lineStart
-returns-2 c = let n = c .before .before .before .before .pre .0 .narrow in (rw (eq-eqb _ _ (c .before .if1 .taken)) (omega arith), omega arith, omega arith)
+returns-2 c =
+    let n = c .before .before .before .before .pre .0 .narrow in
+    (rw (eq-eqb _ _ (c .before .if1 .taken)) (omega arith), omega arith, omega arith)
 
 add-result-2 : tie.Need-add-result-2
 add-result-2 c = search needs
@@ -43,7 +47,10 @@ sub-result-4 c = search needs
 
 returns-4 : tie.Need-returns-4
 unfolding lineStart
-returns-4 c = let n = c .before .before .before .before .before .pre .0 .narrow in (rw (ne-eqb _ _ (c .before .before .if1 .left), lt-leb _ _ (c .if3 .left)), omega arith, omega arith)
+returns-4 c =
+    let branch1 = c .before .before in
+    let start = branch1 .before .before .before in
+    let n = start .pre .0 .narrow in (rw (ne-eqb _ _ (branch1 .if1 .left), lt-leb _ _ (c .if3 .left)), omega arith, omega arith)
 
 pub line-start-spec : {M : Type 1} → statement M
 line-start-spec =

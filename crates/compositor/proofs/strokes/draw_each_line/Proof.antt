@@ -27,13 +27,24 @@ loop-holds c =
     (omega arith, none, refl, begin _ _ _ _ (lines-begin (a .s) (a .ws .now) (a .lines)))
 
 letters-on-requires : tie.Need-letters-on-requires Inv-loop μ-loop
-letters-on-requires c κs = let h = c .loop-test .taken in let few = c .before .before .before .before .pre .4 in let room = c .before .before .before .before .pre .2 .room in omega arith
+letters-on-requires c κs =
+    let h = c .loop-test .taken in
+    let few = c .before .before .before .before .pre .4 in
+    let room = c .before .before .before .before .pre .2 .room in
+    omega arith
 
 measure-line-requires : tie.Need-measure-line-requires Inv-loop μ-loop
-measure-line-requires c κs = let few = c .before .before .before .before .before .pre .4 in let room = c .before .before .before .before .before .pre .2 .room in let h = c .before .loop-test .taken in omega arith
+measure-line-requires c κs =
+    let start = c .before .before .before .before .before in
+    let few = start .pre .4 in
+    let room = start .pre .2 .room in
+    let h = c .before .loop-test .taken in
+    omega arith
 
 line-start-requires : tie.Need-line-start-requires Inv-loop μ-loop
-line-start-requires c κs = (c .before .before .before .before .before .before .pre .3, c .measure-line .ensures .1)
+line-start-requires c κs =
+    let start = c .before .before .before .before .before .before in
+    (start .pre .3, c .measure-line .ensures .1)
 
 sub-baseline : tie.Need-sub-baseline Inv-loop μ-loop
 sub-baseline c = let h = c .before .before .before .loop-test .taken in omega arith
@@ -42,15 +53,21 @@ sub-baseline-2 : tie.Need-sub-baseline-2 Inv-loop μ-loop
 sub-baseline-2 c = let h = c .before .before .before .loop-test .taken in omega arith
 
 baseline-requires : tie.Need-baseline-requires Inv-loop μ-loop
-baseline-requires c κs = let few = c .before .before .before .before .before .before .before .pre .4 in (c .before .before .before .before .before .before .before .pre .3, omega arith)
+baseline-requires c κs =
+    let start = c .before .before .before .before .before .before .before in
+    let few = start .pre .4 in (start .pre .3, omega arith)
 
 draw-line-requires : tie.Need-draw-line-requires Inv-loop μ-loop
 draw-line-requires c κs =
-    let s = c .before .before .before .before .before .before .before .before .before in
-    let l = c .before .before .before .before .before .before .loop in
-    let h = c .before .before .before .before .before .loop-test .taken in
-    let n = c .before .before .before .before .letters-on .ensures in
-    let x = c .before .before .line-start .ensures in
+    let after-line-start = c .before .before in
+    let after-letters-on = after-line-start .before .before in
+    let in-loop = after-letters-on .before in
+    let at-loop = in-loop .before in
+    let s = at-loop .before .before .before in
+    let l = at-loop .loop in
+    let h = in-loop .loop-test .taken in
+    let n = after-letters-on .letters-on .ensures in
+    let x = after-line-start .line-start .ensures in
     let y = c .before .baseline .ensures in
     let left = x .1 in
     let right = x .2 in
@@ -66,31 +83,46 @@ draw-line-requires c κs =
 
 add-first : tie.Need-add-first Inv-loop μ-loop
 add-first c =
-    let s = c .before .before .before .before .before .before .before .before .before .before .before .before in
-    let l = c .before .before .before .before .before .before .before .before .before .loop in
-    let h = c .before .before .before .before .before .before .before .before .loop-test .taken in
-    let n = c .before .before .before .before .before .before .before .letters-on .ensures in
+    let after-letters-on = c .before .before .before .before .before .before .before in
+    let in-loop = after-letters-on .before in
+    let at-loop = in-loop .before in
+    let s = at-loop .before .before .before in
+    let l = at-loop .loop in
+    let h = in-loop .loop-test .taken in
+    let n = after-letters-on .letters-on .ensures in
     let on = letters-turn (s .args .ws .now) (s .args .lines) (l .i) h in
     let sum = l .inv .1 in
     let few = s .pre .2 .few in
     omega arith
 
 add-i : tie.Need-add-i Inv-loop μ-loop
-add-i c = let few = c .before .before .before .before .before .before .before .before .before .before .before .before .pre .4 in let h = c .before .before .before .before .before .before .before .before .loop-test .taken in omega arith
+add-i c =
+    let in-loop = c .before .before .before .before .before .before .before .before in
+    let start = in-loop .before .before .before .before in
+    let few = start .pre .4 in let h = in-loop .loop-test .taken in omega arith
 
 loop-less : tie.Need-loop-less Inv-loop μ-loop
-loop-less c = let h = c .before .before .before .before .before .before .before .before .loop-test .taken in omega arith
+loop-less c =
+    let in-loop = c .before .before .before .before .before .before .before .before in
+    let h = in-loop .loop-test .taken in omega arith
 
 loop-again : tie.Need-loop-again Inv-loop μ-loop
 loop-again c =
-    let s = c .before .before .before .before .before .before .before .before .before .before .before .before in
-    let l = c .before .before .before .before .before .before .before .before .before .loop in
-    let h = c .before .before .before .before .before .before .before .before .loop-test .taken in
-    let n = c .before .before .before .before .before .before .before .letters-on .ensures in
-    let w = c .before .before .before .before .before .before .measure-line .ensures .0 in
-    let x = c .before .before .before .before .before .line-start .ensures .0 in
-    let y = c .before .before .before .before .baseline .ensures .0 in
-    let d = c .before .before .draw-line in
+    let after-draw-line = c .before .before in
+    let after-baseline = after-draw-line .before .before in
+    let after-line-start = after-baseline .before in
+    let after-measure-line = after-line-start .before in
+    let after-letters-on = after-measure-line .before in
+    let in-loop = after-letters-on .before in
+    let at-loop = in-loop .before in
+    let s = at-loop .before .before .before in
+    let l = at-loop .loop in
+    let h = in-loop .loop-test .taken in
+    let n = after-letters-on .letters-on .ensures in
+    let w = after-measure-line .measure-line .ensures .0 in
+    let x = after-line-start .line-start .ensures .0 in
+    let y = after-baseline .baseline .ensures .0 in
+    let d = after-draw-line .draw-line in
     let on = letters-turn (s .args .ws .now) (s .args .lines) (l .i) h in
     let sum = l .inv .1 in
     let fits : Lent (length (l .part)) (s .args .rows) = subst (λ (n : ℕ). Lent n (s .args .rows)) (sym (l .inv .2)) (s .pre .0) in (

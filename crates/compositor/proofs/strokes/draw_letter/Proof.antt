@@ -33,17 +33,20 @@ outline-requires : tie.Need-outline-requires
 outline-requires c κs = search needs
 
 draw-outline-requires : tie.Need-draw-outline-requires
-draw-outline-requires c κs = let s = c .before .before .before .before .before .before .before .before .before .before .before .before .before in (s .pre .0, s .pre .3, c .outline .ensures .1)
+draw-outline-requires c κs =
+    let s = c .before .before .before .before .before .before .before .before .before .before .before .before .before in
+    (s .pre .0, s .pre .3, c .outline .ensures .1)
 
 draw-stroke-requires : tie.Need-draw-stroke-requires
 draw-stroke-requires c κs =
-    let s = c .before .before .before .before .before .before .before .before .before .before .before .before .before .before .before .before .before .before .before in
+    let after-draw-outline = c .before .before .before .before .before in
+    let s = after-draw-outline .before .before .before .before .before .before .before .before .before .before .before .before .before .before in
     let near = s .pre .3 in
     let left = near .x-least in
     let right = near .x-most in
     let top = near .base-least in
     let bottom = near .base-most in
-    let fits = subst (λ (n : ℕ). Lent n (s .args .rows)) (sym (c .before .before .before .before .before .draw-outline .kept .0)) (s .pre .0) in
+    let fits = subst (λ (n : ℕ). Lent n (s .args .rows)) (sym (after-draw-outline .draw-outline .kept .0)) (s .pre .0) in
     (fits, omega arith, omega arith, omega arith, omega arith)
 
 same-length : tie.Need-same-length
@@ -52,16 +55,25 @@ same-length c = search needs
 returns : tie.Need-returns
 unfolding glyphStrokes
 returns c =
-    let s = c .before .before .before .before .before .before .before .before .before .before .before .before .before .before .before .before .before .before .before .before .before .before in
-    let code = c .before .before .before .before .before .before .before .before .before .before .before .before .before .before .before .before .before .before .before .code in
-    let style = c .before .before .before .before .before .before .before .before .before .before .before .before .before .before .before .before .before .before .style in
-    let glyph = c .before .before .before .before .before .before .before .before .before .before .before .before .before .before .before .before .before .glyph-of in
-    let offsets = c .before .before .before .before .before .before .before .before .before .before .before .before .before .before .before .before .offsets-of in
-    let around = c .before .before .before .before .before .before .before .before .before .before .before .before .before .before .new in
-    let own = c .before .before .before .before .before .before .before .before .before .before .before .before .before .new2 in
-    let outline = c .before .before .before .before .before .before .before .before .before .outline in
-    let a = c .before .before .before .before .before .before .before .before .draw-outline in
-    let b = c .before .before .draw-stroke in
+    let after-draw-stroke = c .before .before in
+    let after-draw-outline = after-draw-stroke .before .before .before .before .before .before in
+    let after-outline = after-draw-outline .before in
+    let after-new2 = after-outline .before .before .before .before in
+    let after-new = after-new2 .before in
+    let after-offsets-of = after-new .before .before in
+    let after-glyph-of = after-offsets-of .before in
+    let after-style = after-glyph-of .before in
+    let after-code = after-style .before in
+    let s = after-code .before .before .before in
+    let code = after-code .code in
+    let style = after-style .style in
+    let glyph = after-glyph-of .glyph-of in
+    let offsets = after-offsets-of .offsets-of in
+    let around = after-new .new in
+    let own = after-new2 .new2 in
+    let outline = after-outline .outline in
+    let a = after-draw-outline .draw-outline in
+    let b = after-draw-stroke .draw-stroke in
     let l = letterAt (s .args .ws .now) (s .args .number) in
     let whole = letter-strokes (s .args .s) l (s .args .x) (s .args .y)
     (glyph .ensures ∙ rw (style .ensures, code .ensures) (glyph-is (s .pre .1) (l .style .bold) (l .code)))

@@ -30,13 +30,19 @@ add-number : tie.Need-add-number Inv-loop μ-loop
 add-number c = let few = c .before .before .before .before .pre .2 .few in omega arith
 
 number-requires : tie.Need-number-requires Inv-loop μ-loop
-number-requires c κs = let r = c .before .before .before .before .pre .2 in let few = r .few in let room = r .room in omega arith
+number-requires c κs =
+    let r = c .before .before .before .before .pre .2 in
+    let few = r .few in
+    let room = r .room in
+    omega arith
 
 draw-letter-requires : tie.Need-draw-letter-requires Inv-loop μ-loop
 draw-letter-requires c κs =
-    let s = c .before .before .before .before .before .before in
-    let l = c .before .before .before .loop in
-    let h = c .before .before .loop-test .taken in
+    let in-loop = c .before .before in
+    let at-loop = in-loop .before in
+    let s = at-loop .before .before .before in
+    let l = at-loop .loop in
+    let h = in-loop .loop-test .taken in
     let r = s .pre .2 in
     let few = r .few in
     let room = r .room in
@@ -54,8 +60,9 @@ cast-at c = search needs
 
 add-at : tie.Need-add-at Inv-loop μ-loop
 add-at c =
-    let s = c .before .before .before .before .before .before .before .before .before in
-    let l = c .before .before .before .before .before .before .loop in
+    let at-loop = c .before .before .before .before .before .before in
+    let s = at-loop .before .before .before in
+    let l = at-loop .loop in
     let few = s .pre .2 .few in
     let at = l .inv .1 in
     let far = s .pre .4 in
@@ -63,24 +70,34 @@ add-at c =
     omega arith
 
 add-i : tie.Need-add-i Inv-loop μ-loop
-add-i c = let h = c .before .before .before .before .before .before .before .before .before .pre .2 .few in let l = c .before .before .before .before .before .loop-test .taken in omega arith
+add-i c =
+    let in-loop = c .before .before .before .before .before in
+    let start = in-loop .before .before .before .before in
+    let h = start .pre .2 .few in let l = in-loop .loop-test .taken in omega arith
 
 loop-less : tie.Need-loop-less Inv-loop μ-loop
-loop-less c = let l = c .before .before .before .before .before .loop-test .taken in omega arith
+loop-less c =
+    let in-loop = c .before .before .before .before .before in
+    let l = in-loop .loop-test .taken in omega arith
 
 loop-again : tie.Need-loop-again Inv-loop μ-loop
 loop-again c =
-    let s = c .before .before .before .before .before .before .before .before .before in
-    let l = c .before .before .before .before .before .before .loop in
-    let h = c .before .before .before .before .before .loop-test .taken in
-    let n = c .before .before .before .before .number .ensures in
-    let d = c .before .before .draw-letter in
+    let after-draw-letter = c .before .before in
+    let after-number = after-draw-letter .before .before in
+    let in-loop = after-number .before in
+    let at-loop = in-loop .before in
+    let s = at-loop .before .before .before in
+    let l = at-loop .loop in
+    let h = in-loop .loop-test .taken in
+    let n = after-number .number .ensures in
+    let d = after-draw-letter .draw-letter in
     let at = l .inv .1 in
+    let next = line-turn (s .args .s) (s .args .ws .now) (s .args .y) (s .args .first) (s .args .letters) (l .at) (l .i) h in
     let fits : Lent (length (l .part)) (s .args .rows) = subst (λ (n : ℕ). Lent n (s .args .rows)) (sym (l .inv .2)) (s .pre .0) in (
       omega arith,
       omega arith,
       d .kept .0 ∙ l .inv .2,
-      turn _ _ _ _ _ _ (line-turn (s .args .s) (s .args .ws .now) (s .args .y) (s .args .first) (s .args .letters) (l .at) (l .i) h) fits (rw n at (d .ensures)) (l .inv .3),
+      turn _ _ _ _ _ _ next fits (rw n at (d .ensures)) (l .inv .3),
     )
 
 same-length : tie.Need-same-length Inv-loop μ-loop

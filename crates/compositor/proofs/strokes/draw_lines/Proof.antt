@@ -11,7 +11,9 @@ use Rattle.compositor.proofs.strokes.draw_lines.Tie as tie
 
 returns : tie.Need-returns
 unfolding strokesAt
-returns c = let a = c .before .before .before .args in rw (c .if1 .taken) (nothing (a .rows) (a .window) (a .part .now) .paints)
+returns c =
+    let a = c .before .before .before .args in
+    rw (c .if1 .taken) (nothing (a .rows) (a .window) (a .part .now) .paints)
 
 default-regular-requires : tie.Need-default-regular-requires
 default-regular-requires c κs = search needs
@@ -39,13 +41,21 @@ row-offsets-requires-2 c κs = rw (c .new2 .ensures) (shear-of _)
 
 draw-each-line-requires : tie.Need-draw-each-line-requires
 draw-each-line-requires c κs =
-    let s = c .before .before .before .before .before .before .before .before .before .before .before .before .before .before .before .before in (
+    let after-row-offsets2 = c .before .before .before .before .before in
+    let after-new2 = after-row-offsets2 .before in
+    let after-row-offsets = after-new2 .before in
+    let after-new = after-row-offsets .before in
+    let after-table2 = after-new .before in
+    let after-default-bold = after-table2 .before in
+    let after-table = after-default-bold .before in
+    let after-default-regular = after-table .before in
+    let s = after-default-regular .before .before .before .before in (
       s .pre .0,
       record {
-        regular-is = c .before .before .before .before .before .before .before .before .before .before .before .table .ensures ∙ ap (λ (f : BitmapFont). tableOf (f .bold)) (c .before .before .before .before .before .before .before .before .before .before .before .before .default-regular .ensures);
-        bold-is = c .before .before .before .before .before .before .before .before .before .table2 .ensures ∙ ap (λ (f : BitmapFont). tableOf (f .bold)) (c .before .before .before .before .before .before .before .before .before .before .default-bold .ensures);
-        upright-is = c .before .before .before .before .before .before .before .row-offsets .ensures ∙ rw (c .before .before .before .before .before .before .before .before .new .ensures, leans-back false);
-        slanted-is = c .before .before .before .before .before .row-offsets2 .ensures ∙ rw (c .before .before .before .before .before .before .new2 .ensures, leans-back true);
+        regular-is = after-table .table .ensures ∙ ap (λ (f : BitmapFont). tableOf (f .bold)) (after-default-regular .default-regular .ensures);
+        bold-is = after-table2 .table2 .ensures ∙ ap (λ (f : BitmapFont). tableOf (f .bold)) (after-default-bold .default-bold .ensures);
+        upright-is = after-row-offsets .row-offsets .ensures ∙ rw (after-new .new .ensures, leans-back false);
+        slanted-is = after-row-offsets2 .row-offsets2 .ensures ∙ rw (after-new2 .new2 .ensures, leans-back true);
       },
       s .pre .1,
       s .pre .2,

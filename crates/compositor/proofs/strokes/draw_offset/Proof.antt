@@ -26,7 +26,10 @@ add-draw-stroke-2 : tie.Need-add-draw-stroke-2
 add-draw-stroke-2 c = let near = c .before .before .before .before .pre .1 in let most = near .base-most in omega arith
 
 sub-draw-stroke-2 : tie.Need-sub-draw-stroke-2
-sub-draw-stroke-2 c = let near = c .before .before .before .before .pre .1 in let least = near .base-least in omega arith
+sub-draw-stroke-2 c =
+    let near = c .before .before .before .before .pre .1 in
+    let least = near .base-least in
+    omega arith
 
 draw-stroke-requires : tie.Need-draw-stroke-requires
 draw-stroke-requires c κs =
@@ -43,9 +46,13 @@ same-length c = search needs
 
 returns-2 : tie.Need-returns-2
 returns-2 c =
-    let a = c .before .before .before .before .before .before .before .args in
-    let on = one-on (a .o) (a .dy) (a .dx) (sym (c .before .before .before .before .before .is-on-ring .ensures) ∙ not-false _ (c .before .before .before .before .if1 .left)) in
-    rw on (c .before .before .draw-stroke .ensures)
+    let after-draw-stroke = c .before .before in
+    let branch1 = after-draw-stroke .before .before in
+    let after-is-on-ring = branch1 .before in
+    let start = after-is-on-ring .before .before in
+    let a = start .args in
+    let on = one-on (a .o) (a .dy) (a .dx) (sym (after-is-on-ring .is-on-ring .ensures) ∙ not-false _ (branch1 .if1 .left)) in
+    rw on (after-draw-stroke .draw-stroke .ensures)
 
 pub draw-offset-spec : {M : Type 1} → statement M
 draw-offset-spec =

@@ -32,23 +32,31 @@ add-loop c = let h = c .before .before .before .pre .2 in omega arith
 
 draw-ring-row-requires : tie.Need-draw-ring-row-requires Inv-loop μ-loop
 draw-ring-row-requires c κs =
-    let e = c .before .before .before .before .before .pre in
-    let l = c .before .before .loop in
+    let at-loop = c .before .before in
+    let start = at-loop .before .before .before in
+    let e = start .pre in
+    let l = at-loop .loop in
     let h = c .before .loop-test .taken in
-    (subst (λ (n : ℕ). Lent n (c .before .before .before .before .before .args .rows)) (sym (l .inv .1)) (e .0), e .1, e .2, omega arith)
+    (subst (λ (n : ℕ). Lent n (start .args .rows)) (sym (l .inv .1)) (e .0), e .1, e .2, omega arith)
 
 add-dy : tie.Need-add-dy Inv-loop μ-loop
-add-dy c = let l = c .before .before .before .before .before .loop in let h = l .inv .0 in let o = c .before .before .before .before .before .before .before .before .pre .2 in omega arith
+add-dy c =
+    let at-loop = c .before .before .before .before .before in
+    let start = at-loop .before .before .before in
+    let l = at-loop .loop in let h = l .inv .0 in let o = start .pre .2 in omega arith
 
 loop-less : tie.Need-loop-less Inv-loop μ-loop
 loop-less c = let h = c .before .before .before .before .loop-test .taken in omega arith
 
 loop-again : tie.Need-loop-again Inv-loop μ-loop
 loop-again c =
-    let l = c .before .before .before .before .before .loop in
-    let s = c .before .before .before .before .before .before .before .before in
-    let h = c .before .before .before .before .loop-test .taken in
-    let d = c .before .before .draw-ring-row in
+    let after-draw-ring-row = c .before .before in
+    let in-loop = after-draw-ring-row .before .before in
+    let at-loop = in-loop .before in
+    let s = at-loop .before .before .before in
+    let l = at-loop .loop in
+    let h = in-loop .loop-test .taken in
+    let d = after-draw-ring-row .draw-ring-row in
     let fits : Lent (length (l .part)) (s .args .rows) = subst (λ (n : ℕ). Lent n (s .args .rows)) (sym (l .inv .1)) (s .pre .0) in (
       omega arith,
       d .kept .0 ∙ l .inv .1,

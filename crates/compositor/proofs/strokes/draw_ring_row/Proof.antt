@@ -35,18 +35,25 @@ draw-offset-requires c κs =
     (subst (λ (n : ℕ). Lent n (c .before .before .before .before .args .rows)) (sym (l .inv .1)) (e .0), e .1, e .2, omega arith, e .3)
 
 add-dx : tie.Need-add-dx Inv-loop μ-loop
-add-dx c = let l = c .before .before .before .before .before .loop in let h = l .inv .0 in let o = c .before .before .before .before .before .before .before .pre .2 in omega arith
+add-dx c =
+    let at-loop = c .before .before .before .before .before in
+    let start = at-loop .before .before in
+    let l = at-loop .loop in let h = l .inv .0 in let o = start .pre .2 in omega arith
 
 loop-less : tie.Need-loop-less Inv-loop μ-loop
 loop-less c = let h = c .before .before .before .before .loop-test .taken in omega arith
 
 loop-again : tie.Need-loop-again Inv-loop μ-loop
 loop-again c =
-    let l = c .before .before .before .before .before .loop in
-    let e = c .before .before .before .before .before .before .before .pre in
-    let a = c .before .before .before .before .before .before .before .args in
-    let h = c .before .before .before .before .loop-test .taken in
-    let d = c .before .before .draw-offset in
+    let after-draw-offset = c .before .before in
+    let in-loop = after-draw-offset .before .before in
+    let at-loop = in-loop .before in
+    let start = at-loop .before .before in
+    let l = at-loop .loop in
+    let e = start .pre in
+    let a = start .args in
+    let h = in-loop .loop-test .taken in
+    let d = after-draw-offset .draw-offset in
     let fits : Lent (length (l .part)) (a .rows) = subst (λ (n : ℕ). Lent n (a .rows)) (sym (l .inv .1)) (e .0) in (
       omega arith,
       d .kept .0 ∙ l .inv .1,

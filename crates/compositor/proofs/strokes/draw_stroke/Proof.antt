@@ -23,7 +23,10 @@ same-length : tie.Need-same-length
 same-length c = search needs
 
 returns-3 : tie.Need-returns-3
-returns-3 c = let h = c .before .before .before .before .before .before .before .if1 .left in rw (c .next2 .ensures, c .before .before .before .draw-glyph-sheared .ensures) (drawn _ _ _ _ (omega arith) (omega arith))
+returns-3 c =
+    let after-draw-glyph-sheared = c .before .before .before in
+    let branch1 = after-draw-glyph-sheared .before .before .before .before in
+    let h = branch1 .if1 .left in rw (c .next2 .ensures, after-draw-glyph-sheared .draw-glyph-sheared .ensures) (drawn _ _ _ _ (omega arith) (omega arith))
 
 pub draw-stroke-spec : {M : Type 1} → statement M
 draw-stroke-spec =
