@@ -23,7 +23,7 @@ count with it.
 ";
 
 const GROWTH: &str = "
-Painting at 3840 x 2160 with outline 1, ours / theirs in ns a letter.
+Painting at 1024 x 640, which 4096 letters fill, with outline 1, ours / theirs in ns a letter.
 
 | Letters | Opaque | Ratio | Translucent | Ratio |
 |---|---|---|---|---|
@@ -68,7 +68,7 @@ pub fn tables(original: &Original) -> String {
 fn growth(original: &Original) -> String {
     let mut text = GROWTH.to_string();
     for letters in (6..=12).map(|power| 1 << power) {
-        let scene = Scene::new("", (3840, 2160), 1, 1, letters);
+        let scene = Scene::new("", (1024, 640), 1, 1, letters);
         let [opaque, translucent] = [OPAQUE, TRANSLUCENT].map(|colors| {
             let [ours, theirs] = scene.times(original, colors);
             let each = |times: Times| 1000.0 * times.painting / letters as f64;
