@@ -2,12 +2,12 @@
 use mathlib.Core.Path.{_≡_, _∙_, refl, sym, ap}
 use mathlib.Core.Bool.{Bool, true, false, cond}
 use mathlib.Core.List.{List, [], _∷_, _++_, map-append}
-use Prim.Native.Nat.{ℕ, zero, suc, _+_, _-_, _*_, _≤_, _<_}
+use Prim.Native.Nat.{ℕ, zero, suc, _+_, _-_, _*_, _≤_, _<_, max}
 use native.Mathlib.Omega.{arith}
 use native.Mathlib.Numerals.{add-one}
 use borrow.Author.Tests.{eq-eqb, ne-eqb}
-use lib.ListN.{length}
-use Rattle.compositor.specs.Outline.{onRing, ringRow, ringRows, ring}
+use lib.ListN.{length, length-append}
+use Rattle.compositor.specs.Outline.{distance, onRing, ringRow, ringRows, ring}
 use Rattle.compositor.specs.Strokes.{Stroke, outlineStrokes}
 
 -- the first offset of a row, and the others
@@ -79,10 +79,55 @@ module _ (glyph offsets k : List ℕ) (o x base : ℕ) where
       ap (λ (b : Bool). strokes (cond b [] (ringRows o 0 (2 * o + 1)))) (ne-eqb o 0 (λ e. omega arith))
       ∙ ap (λ (m : ℕ). strokes (ringRows o 0 m)) n
 
+-- ---- how many they are
+
+module _ (o : ℕ) where
+  row-on : (dy dx n : ℕ) → max (distance o dx) (distance o dy) ≡ o → length (ringRow o dy dx (suc n)) ≡ suc (length (ringRow o dy (suc dx) n))
+  unfolding ringRow
+  row-on dy dx n e = rw (eq-eqb (max (distance o dx) (distance o dy)) o e)
+
+  row-off : (dy dx n : ℕ) → (max (distance o dx) (distance o dy) ≡ o → ⊥) → ringRow o dy dx (suc n) ≡ ringRow o dy (suc dx) n
+  unfolding ringRow
+  row-off dy dx n e = rw (ne-eqb (max (distance o dx) (distance o dy)) o e)
+
+  -- the first row and the last are whole
+  whole : (dy dx n : ℕ) → distance o dy ≡ o → dx + n ≤ 2 * o + 1 → length (ringRow o dy dx n) ≡ n
+  unfolding ringRow
+  whole dy dx zero e h = refl
+  whole dy dx (suc n) e h = row-on dy dx n (omega arith) ∙ ap suc (whole dy (suc dx) n e (omega arith))
+
+  -- a row between them has its two ends: the last column, and the first
+  last : (dy dx n : ℕ) → distance o dy < o → 1 ≤ dx → dx + n ≡ 2 * o → length (ringRow o dy dx (suc n)) ≡ 1
+  unfolding ringRow
+  last dy dx zero e h k = row-on dy dx 0 (omega arith)
+  last dy dx (suc n) e h k = ap length (row-off dy dx (suc n) (λ q. omega arith)) ∙ last dy (suc dx) n e (omega arith) (omega arith)
+
+  ends : (dy : ℕ) → distance o dy < o → length (ringRow o dy 0 (2 * o + 1)) ≡ 2
+  ends dy e =
+      let n : 2 * o + 1 ≡ suc (suc (2 * o - 1)) = omega arith in
+      ap (λ (m : ℕ). length (ringRow o dy 0 m)) n
+      ∙ row-on dy 0 (suc (2 * o - 1)) (omega arith)
+      ∙ ap suc (last dy 1 (2 * o - 1) e (omega arith) (omega arith))
+
+  rows-length : (dy n : ℕ) → 1 ≤ dy → dy + n ≡ 2 * o → length (ringRows o dy (suc n)) ≡ 2 * n + (2 * o + 1)
+  unfolding ringRows
+  rows-length dy zero h k =
+      let w = whole dy 0 (2 * o + 1) (omega arith) (omega arith) in
+      length-append (ringRow o dy 0 (2 * o + 1)) [] ∙ omega arith
+  rows-length dy (suc n) h k =
+      let e = ends dy (omega arith) in
+      let r = rows-length (suc dy) n (omega arith) (omega arith) in
+      length-append (ringRow o dy 0 (2 * o + 1)) (ringRows o (suc dy) (suc n)) ∙ omega arith
+
 -- THE LAW: the outline has 8o offsets
-pub ring-length : (o : ℕ) → o ≤ 2 → length (ring o) ≡ 8 * o
-unfolding ring ringRows ringRow
-ring-length zero h = refl
-ring-length (suc zero) h = refl
-ring-length (suc (suc zero)) h = refl
-ring-length (suc (suc (suc o))) h = absurd (omega arith)
+pub ring-length : (o : ℕ) → length (ring o) ≡ 8 * o
+unfolding ring ringRows
+ring-length zero = refl
+ring-length (suc o) =
+    let w = whole (suc o) 0 0 (2 * suc o + 1) (omega arith) (omega arith) in
+    let r = rows-length (suc o) 1 (2 * o + 1) (omega arith) (omega arith) in
+    let n : 2 * suc o + 1 ≡ suc (suc (2 * o + 1)) = omega arith in
+    ap (λ (b : Bool). length (cond b [] (ringRows (suc o) 0 (2 * suc o + 1)))) (ne-eqb (suc o) 0 (λ e. omega arith))
+    ∙ ap (λ (m : ℕ). length (ringRows (suc o) 0 m)) n
+    ∙ length-append (ringRow (suc o) 0 0 (2 * suc o + 1)) (ringRows (suc o) 1 (suc (2 * o + 1)))
+    ∙ omega arith

@@ -1,7 +1,7 @@
 -- THE LAW: T is the letters on lines times (1 + 8o).
 use mathlib.Core.Path.{_≡_, _∙_, sym, ap, ap₂}
 use mathlib.Core.List.{List, [], _∷_, map, flatten}
-use Prim.Native.Nat.{ℕ, _+_, _-_, _*_, _≤_}
+use Prim.Native.Nat.{ℕ, _+_, _-_, _*_}
 use native.Mathlib.Nat.{zero-mul, suc-mul, add-mul, add-comm}
 use native.Mathlib.Omega.{arith}
 use lib.ListN.{length, length-append, length-map}
@@ -13,10 +13,10 @@ use Rattle.compositor.specs.Outline.{outlineOf, ring}
 use Rattle.compositor.specs.Strokes.{stroke, outlineStrokes, glyphStrokes, letterStrokes, lineStrokes, linesStrokes, drawing}
 use Rattle.compositor.proofs.Outlines.{ring-length}
 
-glyph-length : (glyph offsets k own : List ℕ) (o x base : ℕ) → o ≤ 2 → length (glyphStrokes glyph offsets k own o x base) ≡ 1 + 8 * o
+glyph-length : (glyph offsets k own : List ℕ) (o x base : ℕ) → length (glyphStrokes glyph offsets k own o x base) ≡ 1 + 8 * o
 unfolding glyphStrokes
-glyph-length glyph offsets k own o x base h =
-    let n = ring-length o h in
+glyph-length glyph offsets k own o x base =
+    let n = ring-length o in
     let m = length-map (ring o) (λ d. stroke glyph offsets k (x + d .0 - o) (base + d .1 - o)) in
     length-append (outlineStrokes glyph offsets k o x base (ring o)) (stroke glyph offsets own x base ∷ []) ∙ omega arith
 
@@ -29,7 +29,7 @@ module _ (s : Settings) where
   line-length x base [] = sym (zero-mul each)
   line-length x base (l ∷ ls) =
       length-append (letterStrokes s l x base) _
-      ∙ ap₂ (λ (a b : ℕ). a + b) (glyph-length _ _ _ _ (outlineOf s) x base (omega arith)) (line-length _ base ls)
+      ∙ ap₂ (λ (a b : ℕ). a + b) (glyph-length _ _ _ _ (outlineOf s) x base) (line-length _ base ls)
       ∙ add-comm each (length ls * each)
       ∙ sym (suc-mul (length ls) each)
 
