@@ -1,10 +1,9 @@
 -- Strokes on a picture that was cleared.
 use mathlib.Core.Path.{_≡_, _∙_, ap}
-use mathlib.Core.List.{List, _∷_, _++_, append-assoc}
+use mathlib.Core.List.{List, _++_, append-assoc}
 use Prim.Native.Nat.{ℕ, zero, suc, _+_, _*_}
 use native.Mathlib.Nat.{zero-mul, suc-mul, add-comm}
-use native.Mathlib.Omega.{arith}
-use lib.ListN.{length, take, drop, replicate, length-replicate}
+use lib.ListN.{length, take, drop, replicate, length-replicate, replicate-append-replicate}
 use lib.Seq.{take-at, drop-at, drop-drop}
 use Rattle.font.specs.Stroke.{eachRow}
 use Rattle.compositor.specs.declared.Settings.{Settings}
@@ -16,10 +15,6 @@ use Rattle.compositor.specs.Painting.{painted}
 abbrev zeros : ℕ → List ℕ
 zeros n = replicate n 0
 
-zeros-add : (m n : ℕ) → zeros (m + n) ≡ zeros m ++ zeros n
-zeros-add zero n = let e : 0 + n ≡ n = omega arith in ap zeros e
-zeros-add (suc m) n = let e : suc m + n ≡ suc (m + n) = omega arith in ap zeros e ∙ ap (λ (l : List ℕ). 0 ∷ l) (zeros-add m n)
-
 -- rows of zeros, each changed, whatever was there before them
 rows-cleared : (f : ℕ → List ℕ → List ℕ) (size n y : ℕ) (bytes : List ℕ)
     → eachRow f size n y (zeros (n * size) ++ drop (n * size) bytes) ≡ eachRow (λ j row. f j (zeros size)) size n y bytes
@@ -30,7 +25,7 @@ rows-cleared f size (suc n) y bytes =
     let back : List ℕ = zeros (n * size) ++ drop (n * size) (drop size bytes) in
     let cut : zeros (suc n * size) ++ drop (suc n * size) bytes ≡ zeros size ++ back =
     ap (λ (k : ℕ). zeros k ++ drop k bytes) wide
-    ∙ rw (zeros-add size (n * size), ← (drop-drop (n * size) size bytes)) (append-assoc (zeros size) (zeros (n * size)) (drop (n * size) (drop size bytes))) in
+    ∙ rw (← (replicate-append-replicate {A = ℕ} size (n * size) 0), ← (drop-drop (n * size) size bytes)) (append-assoc (zeros size) (zeros (n * size)) (drop (n * size) (drop size bytes))) in
     let long : length (zeros size) ≡ size = length-replicate size 0 in
     rw (
       cut,

@@ -1,7 +1,7 @@
 -- THE LAW: the numbers on lines are some of the letters', each once and in order. So each is a letter's, and they are no more than the letters.
 use mathlib.Core.Path.{_≡_, _∙_, refl, sym, ap, subst}
 use mathlib.Core.Bool.{_&&_, not}
-use mathlib.Core.List.{List, [], _∷_, _++_, map, flatten, append-assoc, append-nil}
+use mathlib.Core.List.{List, [], _∷_, _++_, map, flatten, append-assoc, append-nil, Sublistᴰ, Sublistᴰ·slnil, Sublistᴰ·cons, Sublistᴰ·cons-cons, Sublistᴰ·nil-sublist, Sublistᴰ·refl, Sublistᴰ·append, Sublistᴰ·trans}
 use Prim.Native.Nat.{ℕ, zero, suc, _+_, _<_, _≤_}
 use native.Mathlib.Omega.{arith}
 use lib.Dec.{eqb}
@@ -12,35 +12,17 @@ use Rattle.wrap.specs.Lines.{Line, Filling, upFrom, ontoFirst, keep, wit
 use Rattle.wrap.proofs.Lists.{cases, last-all, length-up}
 use Rattle.wrap.proofs.Shown.{laid, close-laid, place-laid, tokens-all}
 
--- a is what is left of b when some go
-pub data SomeOf : List ℕ → List ℕ → Type 0 where
-  end : SomeOf [] []
-  gone : {k : ℕ} {a b : List ℕ} → SomeOf a b → SomeOf a (k ∷ b)
-  kept : {k : ℕ} {a b : List ℕ} → SomeOf a b → SomeOf (k ∷ a) (k ∷ b)
+-- the library's sublists: a is what is left of b when some go
+abbrev pub SomeOf : List ℕ → List ℕ → Type 0
+SomeOf a b = Sublistᴰ a b
 
-all : (b : List ℕ) → SomeOf b b
-all [] = end
-all (k ∷ b) = kept (all b)
-
-none : (b : List ℕ) → SomeOf [] b
-none [] = end
-none (k ∷ b) = gone (none b)
-
-both : {a b c d : List ℕ} → SomeOf a b → SomeOf c d → SomeOf (a ++ c) (b ++ d)
-both end q = q
-both (gone p) q = gone (both p q)
-both (kept p) q = kept (both p q)
-
-through : {a b c : List ℕ} → SomeOf a b → SomeOf b c → SomeOf a c
-through p end = p
-through p (gone q) = gone (through p q)
-through (gone p) (kept q) = gone (through p q)
-through (kept p) (kept q) = kept (through p q)
+kept : {k : ℕ} {a b : List ℕ} → SomeOf a b → SomeOf (k ∷ a) (k ∷ b)
+kept p = Sublistᴰ·cons-cons refl p
 
 pub some-length : {a b : List ℕ} → SomeOf a b → length a ≤ length b
-some-length end = omega arith
-some-length (gone p) = let n = some-length p in omega arith
-some-length (kept p) = let n = some-length p in omega arith
+some-length Sublistᴰ·slnil = omega arith
+some-length (Sublistᴰ·cons p) = let n = some-length p in omega arith
+some-length (Sublistᴰ·cons-cons e p) = let n = some-length p in omega arith
 
 -- ---- numbers below n
 
@@ -51,9 +33,9 @@ Below n (k ∷ ks) = (k < n) × Below n ks
 module _ (n : ℕ) where
   some-below : {a b : List ℕ} → SomeOf a b → Below n b → Below n a
   unfolding Below
-  some-below end q = q
-  some-below (gone p) q = some-below p (q .1)
-  some-below (kept p) q = (q .0, some-below p (q .1))
+  some-below Sublistᴰ·slnil q = q
+  some-below (Sublistᴰ·cons p) q = some-below p (q .1)
+  some-below (Sublistᴰ·cons-cons e p) q = let h = q .0 in (omega arith, some-below p (q .1))
 
   below-up : (k m : ℕ) → k + m ≤ n → Below n (upFrom k m)
   unfolding Below upFrom
@@ -76,10 +58,10 @@ module _ (ls : List Letter) where
 
   logical : (ks : Line) → SomeOf (flatten (logicalLines ls ks)) ks
   unfolding flatten logicalLines
-  logical [] = end
+  logical [] = Sublistᴰ·slnil
   logical (k ∷ ks) =
       cases (λ (x : List Line). SomeOf (flatten x) (k ∷ ks)) (isBreak (codeOf ls k)) _ _
-      (λ _. gone (logical ks))
+      (λ _. Sublistᴰ·cons (logical ks))
       (λ _. onto k (logicalLines ls ks) (logical ks))
 
   -- ---- filling: a token goes, or is laid whole
@@ -93,9 +75,9 @@ module _ (ls : List Letter) where
     unfolding putToken
     token-from f t came p =
         let drops : (g : Filling) → laid ls g ≡ laid ls f → From g (came ++ t) =
-        λ g e. subst (λ (x : Line). SomeOf x (came ++ t)) (append-nil (laid ls f) ∙ sym e) (both p (none t)) in
+        λ g e. subst (λ (x : Line). SomeOf x (came ++ t)) (append-nil (laid ls f) ∙ sym e) (Sublistᴰ·append p (Sublistᴰ·nil-sublist t)) in
         let lays : (g : Filling) → laid ls g ≡ laid ls f → From (place ls L g t) (came ++ t) =
-        λ g e. subst (λ (x : Line). SomeOf x (came ++ t)) (sym (place-laid ls L g t ∙ ap (λ (x : Line). x ++ t) e)) (both p (all t)) in
+        λ g e. subst (λ (x : Line). SomeOf x (came ++ t)) (sym (place-laid ls L g t ∙ ap (λ (x : Line). x ++ t) e)) (Sublistᴰ·append p (Sublistᴰ·refl t)) in
         let P : Filling → Type 0 = λ g. From g (came ++ t) in
         cases P (eqb (visibleCols ls t) 0) _ _ (λ _. drops f refl)
         (λ _. cases P (isSpaceToken ls t && not (hasColumns ls L f)) _ _ (λ _. drops f refl)
@@ -121,18 +103,18 @@ module _ (ls : List Letter) where
   -- ---- trailing spaces go
 
   keep-some : (k : ℕ) (l m : Line) → SomeOf m l → SomeOf (keep (λ i. isSpace (codeOf ls i)) k m) (k ∷ l)
-  keep-some k l [] p = cases (λ (x : Line). SomeOf x (k ∷ l)) (isSpace (codeOf ls k)) _ _ (λ _. gone p) (λ _. kept p)
+  keep-some k l [] p = cases (λ (x : Line). SomeOf x (k ∷ l)) (isSpace (codeOf ls k)) _ _ (λ _. Sublistᴰ·cons p) (λ _. kept p)
   keep-some k l (x ∷ m) p = kept p
 
   trim-some : (l : Line) → SomeOf (trimTrailingSpace ls l) l
   unfolding withoutLast
-  trim-some [] = end
+  trim-some [] = Sublistᴰ·slnil
   trim-some (k ∷ l) = keep-some k l (trimTrailingSpace ls l) (trim-some l)
 
   trims-some : (r : List Line) → SomeOf (flatten (map (trimTrailingSpace ls) r)) (flatten r)
   unfolding flatten
-  trims-some [] = end
-  trims-some (l ∷ r) = both (trim-some l) (trims-some r)
+  trims-some [] = Sublistᴰ·slnil
+  trims-some (l ∷ r) = Sublistᴰ·append (trim-some l) (trims-some r)
 
   -- ---- the lines
 
@@ -144,8 +126,9 @@ module _ (ls : List Letter) where
       let trimmed = trims-some r in
       let lines = subst (λ (x : Line). SomeOf x (flatten r)) (sym (last-all (map (trimTrailingSpace ls) r))) trimmed in
       let closed : SomeOf (flatten r) (flatten r ++ filled ls L .line) =
-      subst (λ (x : Line). SomeOf x (flatten r ++ filled ls L .line)) (append-nil (flatten r)) (both (all (flatten r)) (none (filled ls L .line))) in
-      through lines (through closed (through (fill-from L (logicalLines ls numbers) noLines [] end) (logical numbers)))
+      subst (λ (x : Line). SomeOf x (flatten r ++ filled ls L .line)) (append-nil (flatten r)) (Sublistᴰ·append (Sublistᴰ·refl (flatten r)) (Sublistᴰ·nil-sublist (filled ls L .line))) in
+      Sublistᴰ·trans lines
+      (Sublistᴰ·trans closed (Sublistᴰ·trans (fill-from L (logicalLines ls numbers) noLines [] Sublistᴰ·slnil) (logical numbers)))
 
   pub known : (L j : ℕ) → j < length (flatten (wrapRuns ls L)) → getD (flatten (wrapRuns ls L)) j 0 < length ls
   known L j h =
