@@ -6,7 +6,7 @@ use native.Mathlib.Omega.{arith}
 use lib.ListN.{length, take, drop, length-append}
 use lib.Seq.{slice, take-nil}
 use Rattle.font.specs.Stroke.{eachRow}
-use Rattle.font.proofs.Rows.{rows-length, rows-then, rows-kept, stroke-length}
+use Rattle.font.proofs.Rows.{rows-then, rows-kept, stroke-length}
 use Rattle.compositor.specs.declared.strokes.Rows.{Rows}
 use Rattle.compositor.specs.declared.strokes.Window.{Window}
 use Rattle.compositor.specs.Strokes.{Stroke}
@@ -59,9 +59,6 @@ module _ {A : Type 0} where
 -- ---- on lent rows
 
 module _ (rows : Rows) where
-  pub painted-length : (ts : List Stroke) (part : List ℕ) → length (painted rows ts part) ≡ length part
-  painted-length ts part = rows-length (strokesOn ts) (4 * rows .width) (strokes-length ts) (rows .count) (rows .first) part
-
   painted-none : (part : List ℕ) → part ≡ painted rows [] part
   unfolding strokesOn
   painted-none part = sym (rows-kept (strokesOn []) (4 * rows .width) (rows .count) (rows .first) part (λ j row h. refl))

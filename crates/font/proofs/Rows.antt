@@ -76,14 +76,6 @@ module _ (f : ℕ → List ℕ → List ℕ) (size : ℕ) where
 
 -- a change that keeps each row as long as it is
 module _ (f : ℕ → List ℕ → List ℕ) (size : ℕ) (same : (y : ℕ) (row : List ℕ) → length (f y row) ≡ length row) where
-  pub rows-length : (n y : ℕ) (l : List ℕ) → length (eachRow f size n y l) ≡ length l
-  unfolding eachRow
-  rows-length zero y l = refl
-  rows-length (suc n) y l =
-      length-append (f y (take size l)) (eachRow f size n (suc y) (drop size l))
-      ∙ rw (same y (take size l), rows-length n (suc y) (drop size l)) (sym (length-append (take size l) (drop size l)))
-      ∙ ap length (take-append-drop size l)
-
   -- one change after the other
   pub rows-then : (g : ℕ → List ℕ → List ℕ) (n y : ℕ) (l : List ℕ) → n * size ≤ length l
       → eachRow (λ j row. g j (f j row)) size n y l ≡ eachRow g size n y (eachRow f size n y l)
