@@ -1,6 +1,9 @@
 //! Looks for the two original files and, where both are there, declares them as modules of this
 //! crate: `font.rs` at the place where it stands, and `compositor.rs` as a copy in the build's own
-//! folder with `append/compositor.rs` behind it, since what the comparison calls there is private.
+//! folder with `append/compositor.rs` behind it, since what the comparison calls there is private,
+//! and then its draw loop once more with a counter in it.
+
+mod counted;
 
 use std::env;
 use std::fs;
@@ -12,6 +15,7 @@ const FILES: [&str; 2] = ["font.rs", "compositor.rs"];
 fn main() -> io::Result<()> {
     println!("cargo::rustc-check-cfg=cfg(original)");
     println!("cargo::rerun-if-changed=build.rs");
+    println!("cargo::rerun-if-changed=counted.rs");
     println!("cargo::rerun-if-env-changed=CAPTIONS_RUST");
     let folder = folder();
     println!(
@@ -65,7 +69,8 @@ fn declare(folder: &Path) -> io::Result<()> {
     Ok(())
 }
 
-/// The file itself, or, where `append/` has something to put behind it, a copy with that.
+/// The file itself, or, where `append/` has something to put behind it, a copy with that and with
+/// the counted loop.
 fn opened(file: &Path, name: &str, out: &Path) -> io::Result<PathBuf> {
     let append = Path::new("append").join(name);
     println!("cargo::rerun-if-changed=append");
@@ -73,9 +78,12 @@ fn opened(file: &Path, name: &str, out: &Path) -> io::Result<PathBuf> {
         return Ok(file.to_path_buf());
     }
     let copy = out.join(name);
-    fs::write(
-        &copy,
-        fs::read_to_string(file)? + &fs::read_to_string(append)?,
-    )?;
+    let text = fs::read_to_string(file)?;
+    let counted = counted::methods(&text).unwrap_or_else(|found| {
+        let file = file.display();
+        println!("cargo::error=no counter can be put into the draw loop of {file}: {found}");
+        String::new()
+    });
+    fs::write(&copy, text + &fs::read_to_string(append)? + &counted)?;
     Ok(copy)
 }

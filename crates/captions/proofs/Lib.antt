@@ -1,0 +1,3 @@
+-- A job record as numbers; an answer as one number.
+mod Records
+mod Packing

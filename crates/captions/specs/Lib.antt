@@ -1,1 +1,3 @@
+-- The definitions; then a promise.
 pub mod Interface
+pub mod Packed

@@ -1,96 +1,119 @@
--- For the layers above: what each answer of the call tells.
-use mathlib.Core.Path.{_≡_, _∙_, refl, sym}
-use mathlib.Core.Bool.{Bool, true, false}
+-- For the layers above: what each answer of a call tells.
+use mathlib.Core.Path.{_≡_, refl, sym, _∙_}
+use mathlib.Core.Bool.{Bool, true, false, not}
 use mathlib.Core.List.{List, flatten}
 use Prim.Native.Nat.{ℕ, _≤_}
 use native.Mathlib.Omega.{arith}
+use borrow.Author.Tests.{ltb-false}
 use lib.Dec.{lit≤, ltb}
 use lib.ListN.{length}
-use Rattle.tape.specs.Outcome.{Outcome, accepted, refused, refuseIf, onAccepted}
+use Rattle.tape.specs.Outcome.{Outcome, accepted, refused, refuseIf, onAccepted, andThen}
+use Rattle.tape.specs.declared.Style.{Style}
 use Rattle.tape.specs.Runs.{Letter}
 use Rattle.tape.specs.Style.{defaultWith}
-use Rattle.tape.specs.Tape.{mostBytes, tapeRead}
-use Rattle.tape.proofs.Answers.{Fits, fits}
+use Rattle.tape.specs.Tape.{mostBytes, leastRoom, tapeLetters}
+use Rattle.tape.proofs.Bounds as Tape
 use Rattle.wrap.specs.Lines.{wrapRuns}
 use Rattle.wrap.proofs.Once.{few-letters}
 use Rattle.compositor.specs.declared.Settings.{Settings}
 use Rattle.compositor.specs.declared.Answer.{Answer}
+use Rattle.compositor.specs.declared.job.JobRecord.{JobRecord}
 use Rattle.compositor.specs.Settings.{outOfRange, pictureBytes}
 use Rattle.compositor.specs.Layout.{columnLimit}
 use Rattle.compositor.specs.Outline.{outlineOf}
 use Rattle.compositor.specs.Strokes.{Stroke, drawing}
-use Rattle.compositor.specs.Draw.{drawCall}
-use Rattle.compositor.specs.Drawn.{answerOf, Drawn}
+use Rattle.compositor.specs.Draw.{tapeStrokes, drawCall}
+use Rattle.compositor.specs.Drawn.{answerOf}
+use Rattle.compositor.specs.Stripes.{hasStripe, stripesUnfit, counterOf, countersUnsound}
+use Rattle.compositor.specs.Work.{openCall, stripeCall, workCall}
 use Rattle.compositor.proofs.Total.{total}
 use Rattle.compositor.proofs.Whole.{total-small}
+use Rattle.compositor.proofs.Jobs.{strokes-done}
 
 -- the most strokes of a caption: 4,096 letters, each with an outline of 2
 abbrev pub mostStrokes : ℕ
 mostStrokes = 69632
 
--- there are so many strokes
-pub record Accepted (s : Settings) (room size : ℕ) (tape : List ℕ) (count : ℕ) : Type 0 where
-  pub strokes : List Stroke
-  pub means : drawCall s room size tape ≡ accepted strokes
-  pub count-is : count ≡ length strokes
-  pub few : count ≤ mostStrokes
+-- ---- bounds: no more strokes than that, and a number of document 01's with a place as far as a tape may go
 
--- the number is at most 11, and the place as far as a tape may go
-pub record Refused (s : Settings) (room size : ℕ) (tape : List ℕ) (number place : ℕ) : Type 0 where
-  pub means : drawCall s room size tape ≡ refused number place
-  pub most : number ≤ 11
-  pub near : place ≤ mostBytes
-
--- ---- bounds of the call
-
-abbrev Bounded : Outcome (List Stroke) → Type 0
+abbrev pub Bounded : Outcome (List Stroke) → Type 0
 Bounded (accepted ts) = length ts ≤ mostStrokes
-Bounded (refused number place) = (number ≤ 11) × (place ≤ mostBytes)
+Bounded (refused number place) = (number ≤ 14) × (place ≤ mostBytes)
 
-bounded : (s : Settings) (room size : ℕ) (tape : List ℕ) → Bounded (drawCall s room size tape)
-unfolding drawCall
-bounded s room size tape = test (outOfRange s) (ltb size (pictureBytes s))
+refuse-bounded : (t : Bool) (number : ℕ) (o : Outcome (List Stroke)) → number ≤ 14 → (t ≡ false → Bounded o) → Bounded (refuseIf t number 0 o)
+refuse-bounded true number o h b = (h, lit≤ tt)
+refuse-bounded false number o h b = b refl
+
+strokes-bounded : (s : Settings) (tape : List ℕ) → length tape ≤ mostBytes → Bounded (tapeStrokes s tape)
+unfolding tapeStrokes
+strokes-bounded s tape short = own (tapeLetters style tape) (Tape.letters-bounded style tape)
   where
-    own : (o : Outcome (List Letter)) → Fits tape room o → Bounded (onAccepted (drawing s) o)
-    own (accepted ls) f =
-        let few = f .0 in
+    style : Style
+    style = defaultWith (s .«default_color»)
+
+    own : (o : Outcome (List Letter)) → Tape.Bounded (length tape) o → Bounded (onAccepted (drawing s) o)
+    own (accepted ls) few =
         let some = few-letters ls (columnLimit s) in
         let small = total-small (length (flatten (wrapRuns ls (columnLimit s)))) (outlineOf s) (omega arith) (omega arith) in
         let all = total s ls in
         omega arith
-    own (refused number place) f = (f .0, f .2)
+    own (refused number place) b = let most = b .most in let on = b .on in (omega arith, omega arith)
 
-    test : (out short : Bool)
-        → Bounded (refuseIf out 8 0 (refuseIf short 9 0 (onAccepted (drawing s) (tapeRead (defaultWith (s .«default_color»)) room tape))))
-    test true short = (lit≤ tt, lit≤ tt)
-    test false true = (lit≤ tt, lit≤ tt)
-    test false false =
-        own (tapeRead (defaultWith (s .«default_color»)) room tape) (fits (defaultWith (s .«default_color»)) room tape)
+module _ (s : Settings) (room size : ℕ) (tape : List ℕ) where
+  -- after 8 to 11
+  station-bounded : (o : Outcome (List Stroke)) → (length tape ≤ mostBytes → Bounded o)
+      → Bounded (refuseIf (outOfRange s) 8 0 (refuseIf (ltb size (pictureBytes s)) 9 0 (refuseIf (ltb mostBytes (length tape)) 10 0 (refuseIf (ltb room leastRoom) 11 0 o))))
+  station-bounded o b =
+      refuse-bounded (outOfRange s) 8 _ (lit≤ tt)
+      (λ _. refuse-bounded (ltb size (pictureBytes s)) 9 _ (lit≤ tt)
+      (λ _. refuse-bounded (ltb mostBytes (length tape)) 10 _ (lit≤ tt)
+      (λ short. refuse-bounded (ltb room leastRoom) 11 o (lit≤ tt) (λ _. b (ltb-false mostBytes (length tape) short)))))
 
--- ---- the answers
+  pub draw-bounded : Bounded (drawCall s room size tape)
+  unfolding drawCall
+  draw-bounded = station-bounded (tapeStrokes s tape) (strokes-bounded s tape)
 
-module _ {s : Settings} {tape ws ws' picture picture' : List ℕ} {r : Answer} (d : Drawn s tape ws ws' picture picture' r) where
-  abbrev call : Outcome (List Stroke)
-  call = drawCall s (length ws) (length picture) tape
+  pub open-bounded : (h : ℕ) → Bounded (openCall s room size tape h)
+  unfolding openCall
+  open-bounded h =
+      station-bounded (refuseIf (stripesUnfit s h) 13 0 (tapeStrokes s tape))
+      (λ short. refuse-bounded (stripesUnfit s h) 13 _ (lit≤ tt) (λ _. strokes-bounded s tape short))
 
-  pub strokes-are : {count : ℕ} → r ≡ Answer.Strokes count → Accepted s (length ws) (length picture) tape count
-  strokes-are {count} is = go call refl (sym is ∙ d .answers) (bounded s (length ws) (length picture) tape)
+  pub work-bounded : (job : JobRecord) (k n : ℕ) → Bounded (workCall s room size tape job k n)
+  unfolding workCall stripeCall
+  work-bounded job k n = go (openCall s room size tape (job .«stripe_height»)) (open-bounded (job .«stripe_height»))
     where
-      go : (o : Outcome (List Stroke)) → call ≡ o → Answer.Strokes count ≡ answerOf o → Bounded o → Accepted s (length ws) (length picture) tape count
-      go (accepted ts) e a b =
-          let n : count ≡ length ts = cc in
-          record { strokes = ts; means = e; count-is = n; few = omega arith }
-      go (refused number place) e a b = let z : _≡_ {A = ℕ} 0 1 = cc in absurd (omega arith)
+      go : (o : Outcome (List Stroke)) → Bounded o → Bounded (andThen (stripeCall s job k n) o)
+      go (accepted ts) b =
+          let m = strokes-done ts (counterOf job k) n in
+          refuse-bounded (countersUnsound s (job .«stripe_height») (length ts) 0 (job .counters)) 14 _ (lit≤ tt)
+          (λ _. refuse-bounded (not (hasStripe s (job .«stripe_height») k)) 12 _ (lit≤ tt) (λ _. omega arith))
+      go (refused number place) b = b
 
-  pub refusal-is : {number place : ℕ} → r ≡ Answer.Refused number place → Refused s (length ws) (length picture) tape number place
-  refusal-is {number} {place} is = go call refl (sym is ∙ d .answers) (bounded s (length ws) (length picture) tape)
-    where
-      go : (o : Outcome (List Stroke)) → call ≡ o → Answer.Refused number place ≡ answerOf o → Bounded o
-          → Refused s (length ws) (length picture) tape number place
-      go (accepted ts) e a b = let z : _≡_ {A = ℕ} 0 1 = cc in absurd (omega arith)
-      go (refused k p) e a b =
-          let same : k ≡ number = cc in
-          let there : p ≡ place = cc in
-          let most = b .0 in
-          let near = b .1 in
-          record { means = rw (← same, ← there) e; most = omega arith; near = omega arith }
+-- ---- the answers: there are so many strokes, or the refusal's number and place
+
+pub record Accepted (o : Outcome (List Stroke)) (count : ℕ) : Type 0 where
+  pub strokes : List Stroke
+  pub means : o ≡ accepted strokes
+  pub count-is : count ≡ length strokes
+  pub few : count ≤ mostStrokes
+
+pub record Refused (o : Outcome (List Stroke)) (number place : ℕ) : Type 0 where
+  pub means : o ≡ refused number place
+  pub most : number ≤ 14
+  pub near : place ≤ mostBytes
+
+pub strokes-are : (o : Outcome (List Stroke)) → Bounded o → {count : ℕ} → answerOf o ≡ Answer.Strokes count → Accepted o count
+strokes-are (accepted ts) b {count} e =
+    let n : count ≡ length ts = cc in
+    record { strokes = ts; means = refl; count-is = n; few = omega arith }
+strokes-are (refused number place) b e = let z : _≡_ {A = ℕ} 0 1 = cc in absurd (omega arith)
+
+pub refusal-is : (o : Outcome (List Stroke)) → Bounded o → {number place : ℕ} → answerOf o ≡ Answer.Refused number place → Refused o number place
+refusal-is (accepted ts) b e = let z : _≡_ {A = ℕ} 0 1 = cc in absurd (omega arith)
+refusal-is (refused k p) b {number} {place} e =
+    let same : k ≡ number = cc in
+    let there : p ≡ place = cc in
+    let most = b .0 in
+    let near = b .1 in
+    record { means = rw (same, there); most = omega arith; near = omega arith }

@@ -11,7 +11,7 @@ use Rattle.tape.specs.Outcome.{accepted, refused, onAccepted}
 use Rattle.tape.specs.Style.{sameStyle}
 use Rattle.tape.specs.Command.{codePoint, isLetter, isOpener, isScalar, added, faultOf, commandOf}
 use Rattle.tape.specs.Runs.{mergeInto, lettersOf}
-use Rattle.tape.specs.Tape.{leastRoom, read, tapeRuns, tapeLetters, tapeRead}
+use Rattle.tape.specs.Tape.{leastRoom, read, tapeRuns, tapeLetters}
 use Rattle.tape.specs.Segments.{letterBytes, lettersBytes}
 use Rattle.wrap.specs.Lines.{Line, upFrom, withoutLast, visibleCols, logicalLines, tokenise, isSpaceToken, chunks, putChunks, place, putToken, putTokens, fill, wrapRuns}
 use Rattle.wrap.proofs.Cases as Wrap
@@ -21,7 +21,7 @@ use Rattle.compositor.specs.Layout.{lastBaseLine, baseLine, lineStart}
 use Rattle.compositor.specs.Outline.{ringRow, ringRows, ring}
 use Rattle.compositor.specs.Strokes.{Stroke, glyphStrokes, lineStrokes, linesStrokes, drawing}
 use Rattle.compositor.specs.Picture.{strokesOn, rowAfter}
-use Rattle.compositor.specs.Draw.{drawCall}
+use Rattle.compositor.specs.Draw.{tapeStrokes, drawCall}
 use Rattle.compositor.specs.Plain.{plainStart}
 
 -- white letters with a black outline, in lines as high as a cell
@@ -124,7 +124,7 @@ pub record Cases : Type 0 where
       ≡ accepted (replicate 12 0 ++ (replicate 8 255 ++ replicate 12 0))
 
 pub cases : Cases
-unfolding drawCall outOfRange drawing linesStrokes lineStrokes glyphStrokes ring ringRows ringRow lineStart baseLine rowAfter strokesOn strokeRow paintColumns paintColumn blendPixel blendOver blendByte blendAlpha tabulate regularTable wrapRuns visibleCols logicalLines tokenise isSpaceToken chunks putChunks place putToken putTokens fill withoutLast upFrom flatten tapeRead tapeLetters tapeRuns read faultOf commandOf codePoint isLetter isOpener isScalar added mergeInto lettersOf sameStyle letterBytes
+unfolding drawCall tapeStrokes outOfRange drawing linesStrokes lineStrokes glyphStrokes ring ringRows ringRow lineStart baseLine rowAfter strokesOn strokeRow paintColumns paintColumn blendPixel blendOver blendByte blendAlpha tabulate regularTable wrapRuns visibleCols logicalLines tokenise isSpaceToken chunks putChunks place putToken putTokens fill withoutLast upFrom flatten tapeLetters tapeRuns read faultOf commandOf codePoint isLetter isOpener isScalar added mergeInto lettersOf sameStyle letterBytes
 cases =
     record {
       a = (Wrap.cases .a, refl);

@@ -6,8 +6,15 @@ pub mod Ranges
 pub mod Reading
 pub mod Held
 pub mod Total
+pub mod Off
 pub mod Cleared
+pub mod Stripes
 pub mod Whole
+pub mod Checks
+pub mod Admitted
 pub mod Calls
+pub mod Jobs
+pub mod Demand3
+pub mod Contracts
 pub mod Answers
 pub mod Plain

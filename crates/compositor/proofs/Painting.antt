@@ -1,9 +1,12 @@
 -- Strokes on lent rows: one list after the other, and a window on them.
-use mathlib.Core.Path.{_≡_, _∙_, refl, sym, ap, ap₂, subst}
+use mathlib.Core.Path.{_≡_, _∙_, refl, sym, ap, subst}
+use mathlib.Core.Bool.{true, false, _||_, or-false, true≢false}
 use mathlib.Core.List.{List, [], _∷_, _++_}
-use Prim.Native.Nat.{ℕ, zero, suc, _+_, _-_, _*_, _<_}
+use Prim.Native.Nat.{ℕ, zero, suc, _+_, _-_, _*_}
 use native.Mathlib.Omega.{arith}
-use lib.ListN.{length, take, drop, length-append}
+use borrow.Author.Tests.{leb-true, le-leb, ne-eqb}
+use lib.Dec.{eqb, leb}
+use lib.ListN.{length, take, drop, length-append, length-take, drop-of-length-le}
 use lib.Seq.{slice, take-nil}
 use Rattle.font.specs.Stroke.{eachRow}
 use Rattle.font.proofs.Rows.{rows-then, rows-kept, stroke-length}
@@ -11,7 +14,7 @@ use Rattle.compositor.specs.declared.strokes.Rows.{Rows}
 use Rattle.compositor.specs.declared.strokes.Window.{Window}
 use Rattle.compositor.specs.Strokes.{Stroke}
 use Rattle.compositor.specs.Picture.{strokeOn, strokesOn}
-use Rattle.compositor.specs.Painting.{Lent, cut, after, painted, Painted}
+use Rattle.compositor.specs.Painting.{Lent, cut, misses, after, painted, Painted}
 
 -- ---- on a row
 
@@ -67,7 +70,7 @@ module _ (rows : Rows) where
       → painted rows (a ++ b) part ≡ painted rows b (painted rows a part)
   painted-append a b part fits =
       (λ i. eachRow (λ y row. strokes-append a b y row i) (4 * rows .width) (rows .count) (rows .first) part)
-      ∙ rows-then (strokesOn a) (4 * rows .width) (strokes-length a) (strokesOn b) (rows .count) (rows .first) part (fits .long)
+      ∙ rows-then (strokesOn a) (4 * rows .width) (λ y row e. strokes-length a y row ∙ e) (strokesOn b) (rows .count) (rows .first) part (fits .long)
 
   -- no stroke
   pub nothing : (w : Window) (part : List ℕ) → Painted rows [] w part part w
@@ -114,33 +117,31 @@ module _ (rows : Rows) where
     pub done : {rest : List Stroke} {left : Window} {now : List ℕ} → rest ≡ [] → Still rest left now → Painted rows all w part now left
     done {left = left} {now} e still = still left now (same (sym e) (nothing left now))
 
-  -- one stroke: the window begins after it, has it, or ends before it
-  module _ (t : Stroke) (w : Window) (part : List ℕ) where
-    pub passed : 0 < w .from → Painted rows (t ∷ []) w part part (after w 1)
-    passed h = record { paints = painted-none part ∙ ap (λ (ts : List Stroke). painted rows ts part) (sym (none (w .from) (w .to) h)); counts = refl }
-      where
-        none : (a b : ℕ) → 0 < a → slice a b (t ∷ []) ≡ []
-        none zero b k = absurd (omega arith)
-        none (suc a) zero k = refl
-        none (suc a) (suc b) k = slice-nil a b
+  -- strokes that the window has none of
+  pub missed : (ts : List Stroke) {n : ℕ} (w : Window) (part : List ℕ) → n ≡ length ts → misses w n ≡ true
+      → Painted rows ts w part part (after w n)
+  missed ts w part e h =
+      record {
+        paints = painted-none part ∙ ap (λ (us : List Stroke). painted rows us part) (sym (none (w .from) (w .to) (rw e at h)));
+        counts = ap (after w) e;
+      }
+    where
+      none : (a b : ℕ) → (leb (length ts) a || eqb b 0) ≡ true → slice a b ts ≡ []
+      none a zero k = slice-nil a 0
+      none a (suc b) k =
+          let some : (leb (length ts) a || false) ≡ true = rw (ne-eqb (suc b) 0 (λ z. omega arith)) at k in
+          let few = leb-true (length ts) a (rw or-false at some) in
+          let n = length-take (suc b) ts in
+          drop-of-length-le (take (suc b) ts) {i = a} (omega arith)
 
-    pub over : w .from ≡ 0 → w .to ≡ 0 → Painted rows (t ∷ []) w part part w
-    over f e =
-        let from : w .from ≡ w .from - 1 = omega arith in
-        let to : w .to ≡ w .to - 1 = omega arith in
-        let none : cut w (t ∷ []) ≡ [] = ap₂ (λ (a b : ℕ). slice a b (t ∷ [])) f e in
-        record {
-          paints = painted-none part ∙ ap (λ (ts : List Stroke). painted rows ts part) (sym none);
-          counts = λ i. record { from = from i; to = to i };
-        }
-
-    pub drawn : w .from ≡ 0 → 0 < w .to
-        → Painted rows (t ∷ []) w part (eachRow (strokeOn t) (4 * rows .width) (rows .count) (rows .first) part) (after w 1)
-    unfolding strokesOn
-    drawn f h =
-        let one : cut w (t ∷ []) ≡ t ∷ [] = ap (λ (a : ℕ). slice a (w .to) (t ∷ [])) f ∙ whole (w .to) h in
-        record { paints = ap (λ (ts : List Stroke). painted rows ts part) (sym one); counts = refl }
-      where
-        whole : (b : ℕ) → 0 < b → take b (t ∷ []) ≡ t ∷ []
-        whole zero k = absurd (omega arith)
-        whole (suc b) k = ap (λ (ts : List Stroke). t ∷ ts) (take-nil b)
+  -- one stroke that the window has
+  pub drawn : (t : Stroke) (w : Window) (part : List ℕ) → misses w 1 ≡ false
+      → Painted rows (t ∷ []) w part (eachRow (strokeOn t) (4 * rows .width) (rows .count) (rows .first) part) (after w 1)
+  unfolding strokesOn
+  drawn t w part h =
+      record { paints = ap (λ (ts : List Stroke). painted rows ts part) (sym (whole (w .from) (w .to) h)); counts = refl }
+    where
+      whole : (a b : ℕ) → (leb 1 a || eqb b 0) ≡ false → slice a b (t ∷ []) ≡ t ∷ []
+      whole zero (suc b) k = ap (λ (ts : List Stroke). t ∷ ts) (take-nil b)
+      whole zero zero k = absurd (true≢false k)
+      whole (suc a) b k = absurd (true≢false (rw (le-leb 1 (suc a) (omega arith)) at k))

@@ -1,10 +1,11 @@
 -- Letters and lines read back from the workspace: one letter and one line after the other, as loops go.
-use mathlib.Core.Path.{_≡_, _∙_, sym, ap}
+use mathlib.Core.Path.{_≡_, _∙_, refl, sym, ap}
 use mathlib.Core.Bool.{Bool, true, false, cond}
 use mathlib.Core.List.{List, [], _++_}
-use Prim.Native.Nat.{ℕ, suc, _+_, _-_, _≤_, _<_}
+use Prim.Native.Nat.{ℕ, zero, suc, _+_, _-_, _≤_, _<_}
 use native.Mathlib.Omega.{arith}
 use native.Mathlib.Numerals.{add-one}
+use lib.ListN.{length}
 use Rattle.font.specs.Font.{cellW, tableOf, glyphRows}
 use Rattle.font.specs.Slant.{rowOffsets}
 use Rattle.tape.specs.Runs.{Letter}
@@ -93,6 +94,12 @@ module _ (s : Settings) where
       pub lines-end : (k i : ℕ) → n ≤ i → linesLeft k i ≡ []
       unfolding strokesAt
       lines-end k i h = let m : n - i ≡ 0 = omega arith in ap (strokesAt s ws k i) m
+
+-- how many letters are read
+pub letters-length : (ws : List ℕ) (k n : ℕ) → length (lettersAt ws k n) ≡ n
+unfolding lettersAt
+letters-length ws k zero = refl
+letters-length ws k (suc n) = ap suc (letters-length ws (suc k) n)
 
 -- the letters of the next line, and of those after it
 pub letters-turn : (ws : List ℕ) (n i : ℕ) → i < n → lettersFrom ws i (n - i) ≡ lettersOn ws i + lettersFrom ws (i + 1) (n - (i + 1))

@@ -24,12 +24,15 @@ module _ (s : Settings) where
   abbrev each : ℕ
   each = 1 + 8 * outlineOf s
 
-  line-length : (x base : ℕ) (ls : List Letter) → length (lineStrokes s x base ls) ≡ length ls * each
+  pub letter-length : (l : Letter) (x base : ℕ) → length (letterStrokes s l x base) ≡ each
+  letter-length l x base = glyph-length _ _ _ _ (outlineOf s) x base
+
+  pub line-length : (x base : ℕ) (ls : List Letter) → length (lineStrokes s x base ls) ≡ length ls * each
   unfolding lineStrokes
   line-length x base [] = sym (zero-mul each)
   line-length x base (l ∷ ls) =
       length-append (letterStrokes s l x base) _
-      ∙ ap₂ (λ (a b : ℕ). a + b) (glyph-length _ _ _ _ (outlineOf s) x base) (line-length _ base ls)
+      ∙ ap₂ (λ (a b : ℕ). a + b) (letter-length l x base) (line-length _ base ls)
       ∙ add-comm each (length ls * each)
       ∙ sym (suc-mul (length ls) each)
 

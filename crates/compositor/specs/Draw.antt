@@ -5,21 +5,24 @@ use lib.Dec.{ltb}
 use lib.ListN.{length}
 use Rattle.tape.specs.Outcome.{Outcome, accepted, refused, refuseIf, onAccepted}
 use Rattle.tape.specs.Style.{defaultWith}
-use Rattle.tape.specs.Tape.{tapeRead}
+use Rattle.tape.specs.Tape.{tapeLetters, refuseLengths}
 use Rattle.compositor.specs.declared.Settings.{Settings}
 use Rattle.compositor.specs.Settings.{outOfRange, pictureBytes}
 use Rattle.compositor.specs.Strokes.{Stroke, drawing}
 use Rattle.compositor.specs.Picture.{pictureAfter}
 
+-- the strokes of a tape's caption, or the tape's first fault
+unfoldable pub tapeStrokes : Settings → List ℕ → Outcome (List Stroke)
+tapeStrokes s tape = onAccepted (drawing s) (tapeLetters (defaultWith (s .«default_color»)) tape)
+
 -- what is refused of settings, and of a picture's buffer of `size` bytes, before anything else: 8, and then 9
 abbrev pub refuseSettings : {A : Type 0} → Settings → ℕ → Outcome A → Outcome A
 refuseSettings s size o = refuseIf (outOfRange s) 8 0 (refuseIf (ltb size (pictureBytes s)) 9 0 o)
 
--- What a call of Draw comes to, with a workspace of `room` bytes and a picture's buffer of `size`: 8, 9, or what the tape comes to.
+-- What a call of Draw comes to, with a workspace of `room` bytes and a picture's buffer of `size`: 8, 9, 10, 11, or what the tape comes to.
 -- Accepted, it has the caption's strokes, and answers how many they are.
 unfoldable pub drawCall : Settings → ℕ → ℕ → List ℕ → Outcome (List Stroke)
-drawCall s room size tape =
-    refuseSettings s size (onAccepted (drawing s) (tapeRead (defaultWith (s .«default_color»)) room tape))
+drawCall s room size tape = refuseSettings s size (refuseLengths tape room (tapeStrokes s tape))
 
 -- the picture's buffer afterwards: with all strokes, or as it was
 abbrev pub drawPicture : Settings → List ℕ → Outcome (List Stroke) → List ℕ

@@ -1,11 +1,12 @@
 -- Promises: what the painter's functions ask of and tell each other. No reader of the deposit needs this file.
 use mathlib.Core.Path.{_≡_}
-use mathlib.Core.Bool.{true, false}
+use mathlib.Core.Bool.{Bool, true, false, _||_}
 use mathlib.Core.List.{List}
 use Prim.Native.Nat.{ℕ, _+_, _-_, _*_, _≤_, _<_}
+use lib.Dec.{eqb, leb}
 use lib.ListN.{length}
 use lib.Seq.{slice}
-use Rattle.font.specs.Font.{tableOf}
+use Rattle.font.specs.Font.{cellH, bearingY, tableOf}
 use Rattle.font.specs.Slant.{rowOffsets}
 use Rattle.font.specs.Stroke.{origin, eachRow}
 use Rattle.compositor.specs.declared.strokes.Rows.{Rows}
@@ -40,6 +41,15 @@ cut w ts = slice (w .from) (w .to) ts
 
 abbrev pub after : Window → ℕ → Window
 after w n = record { from = w .from - n; to = w .to - n }
+
+-- the window has none of the next n strokes
+abbrev pub misses : Window → ℕ → Bool
+misses w n = leb n (w .from) || eqb (w .to) 0
+
+-- glyphs on the base line at place y, and outlines of o around them, are all above the lent rows, or all below them
+unfoldable pub offRows : Rows → ℕ → ℕ → Bool
+offRows rows y o =
+    leb (y + o + (cellH - bearingY)) (origin + rows .first) || leb (origin + rows .first + rows .count + o + bearingY) y
 
 -- the lent rows with strokes
 abbrev pub painted : Rows → List Stroke → List ℕ → List ℕ

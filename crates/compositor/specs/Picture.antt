@@ -1,10 +1,10 @@
 -- WHAT STROKES LEAVE OF A PICTURE: document 01, "Places and strokes" and "Open and Work". Definitions only.
-use mathlib.Core.List.{List, [], _∷_}
-use Prim.Native.Nat.{ℕ}
-use lib.ListN.{take, replicate}
+use mathlib.Core.List.{List, [], _∷_, _++_}
+use Prim.Native.Nat.{ℕ, _*_}
+use lib.ListN.{take, drop, replicate}
 use Rattle.font.specs.Stroke.{strokeRow, eachRow}
 use Rattle.compositor.specs.declared.Settings.{Settings}
-use Rattle.compositor.specs.Settings.{rowBytes}
+use Rattle.compositor.specs.Settings.{rowBytes, pictureBytes}
 use Rattle.compositor.specs.Strokes.{Stroke}
 
 -- the picture's row y with what a stroke has there
@@ -23,3 +23,11 @@ rowAfter s ts c y = strokesOn (take c ts) y (replicate (rowBytes s) 0)
 -- the picture's buffer, which held `bytes`, with every row as the first c strokes leave it; the bytes after the picture stay
 abbrev pub pictureAfter : Settings → List Stroke → ℕ → List ℕ → List ℕ
 pictureAfter s ts c bytes = eachRow (λ y row. rowAfter s ts c y) (rowBytes s) (s .height) 0 bytes
+
+-- the picture's buffer with its picture zeroed
+abbrev pub cleared : Settings → List ℕ → List ℕ
+cleared s bytes = replicate (pictureBytes s) 0 ++ drop (pictureBytes s) bytes
+
+-- row y of a picture's buffer
+abbrev pub rowOf : Settings → List ℕ → ℕ → List ℕ
+rowOf s bytes y = take (rowBytes s) (drop (y * rowBytes s) bytes)

@@ -5,7 +5,7 @@ ghost use lib.ListN.{length};
 ghost use Rattle.wrap.specs.Laid.{tableFrom, columnsOn};
 ghost use Rattle.compositor.specs.Layout.{columnLimit, lineHeight, lastBaseLine, baseLine, lineWidth, lineStart};
 ghost use Rattle.font.specs.Stroke.{origin};
-ghost use Rattle.compositor.specs.Drawn.{InRange};
+ghost use Rattle.compositor.specs.Ready.{InRange};
 use crate::Settings;
 use font::BitmapFont;
 use font::ORIGIN;

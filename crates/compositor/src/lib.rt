@@ -1,6 +1,7 @@
 // The compositor: draws a cue's letters, outlined, on a cleared picture.
 // Carried over from `Compositor` of src/compositor.rs of oxideav-subtitle; what is drawn is in specs/.
 // `ws` is the workspace throughout.
+pub mod job;
 mod layout;
 mod strokes;
 
@@ -8,13 +9,14 @@ ghost use mathlib.Core.Path.{_≡_};
 ghost use mathlib.Core.List.{List, _++_};
 ghost use Prim.Native.Nat.{_+_, _*_, _≤_, _<_};
 ghost use lib.ListN.{length, drop, replicate};
-ghost use Rattle.tape.specs.Runs.{Letter};
-ghost use Rattle.wrap.specs.Laid.{Holds};
+ghost use Rattle.tape.specs.Tape.{mostBytes, leastRoom, refuseLengths};
 ghost use Rattle.compositor.specs.Settings.{outOfRange, pictureBytes};
 ghost use Rattle.compositor.specs.Outline.{outlineOf};
-ghost use Rattle.compositor.specs.Strokes.{drawing};
 ghost use Rattle.compositor.specs.Picture.{pictureAfter};
-ghost use Rattle.compositor.specs.Drawn.{InRange, Ready, Drawn};
+ghost use Rattle.compositor.specs.Draw.{tapeStrokes, refuseSettings};
+ghost use Rattle.compositor.specs.Drawn.{Drawn};
+ghost use Rattle.compositor.specs.Read.{strokesAt};
+ghost use Rattle.compositor.specs.Ready.{InRange, Admitted, Checked, Lined, CueRead};
 use strokes::Rows;
 use strokes::Window;
 use tape::Style;
@@ -72,14 +74,64 @@ impl Settings {
         }
         MOST_OUTLINE as usize
     }
+
+    // The strokes of a letter: its outline's, and its own.
+    fn letter_strokes(self) -> usize
+        ensures { λ r. ⌜ (r ≡ 1 + 8 * outlineOf self) × (r ≤ 17) ⌝ }
+    {
+        1 + 8 * self.outline()
+    }
 }
 
-// What a call of `render_into` comes to.
+// What a call comes to.
 pub enum Answer {
-    // How many strokes were drawn.
+    // How many strokes there are, or were drawn.
     Strokes(usize),
     // A refusal's number and place.
     Refused(u8, usize),
+}
+
+// A tape's caption.
+enum Cue {
+    // It lies in the workspace, wrapped: how many lines it has, and strokes.
+    Laid(usize, usize),
+    // A refusal's number and place.
+    Refused(u8, usize),
+}
+
+// What is refused before a tape is read, by its number: 8, 9, 10 or 11. 0 is nothing.
+fn station_fault(s: Settings, tape: &[u8], room: usize, size: usize) -> u8
+    ensures { λ r. ⌜ Checked (λ o. refuseSettings s size (refuseLengths (now (tape .entry)) room o))
+        (Admitted s (length (now (tape .entry))) room size) r ⌝ }
+{
+    if s.is_out_of_range() {
+        return 8;
+    }
+    if size < s.picture_bytes() {
+        return 9;
+    }
+    if tape::MOST_BYTES < tape.len() {
+        return 10;
+    }
+    if room < tape::LEAST_ROOM {
+        return 11;
+    }
+    0
+}
+
+// Reads a tape and puts its letters on lines.
+fn read_cue(s: Settings, tape: &[u8], ws: &mut [u8]) -> Cue
+    requires { ⌜ InRange s × (length (now tape) ≤ mostBytes) × (leastRoom ≤ length (now ws)) ⌝ }
+    ensures { λ r. ⌜ CueRead s (tapeStrokes s (now (tape .entry))) (now (ws .entry)) (now (ws .exit)) r ⌝ }
+{
+    let color = s.default_color;
+    match tape::read_tape(tape, ws, Style::default_with(color)) {
+        tape::Answer::Letters(count) => {
+            let made = wrap::wrap_runs(ws, count, layout::column_limit(s));
+            Cue::Laid(made.lines, made.letters * s.letter_strokes())
+        }
+        tape::Answer::Refused(number, place) => Cue::Refused(number, place),
+    }
 }
 
 // Zeroes the first `size` bytes.
@@ -94,14 +146,11 @@ fn clear(picture: &mut [u8], size: usize)
     }
 }
 
-// Draws the letters of the workspace on a cleared picture, and tells how many strokes they have.
-fn draw_letters(s: Settings, ws: &mut [u8], count: usize, picture: &mut [u8]) -> usize
-    requires { ⌜ Ready s count (length (now picture)) (now ws) ⌝ }
-    ensures { λ r. ⌜ ((ls : List Letter) → count ≡ length ls → Holds ls (now (ws .entry)) →
-        (r ≡ length (drawing s ls)) × (now (picture .exit) ≡ pictureAfter s (drawing s ls) r (now (picture .entry)))) ⌝ }
+// Draws the caption that lies in the workspace, all its strokes, on a cleared picture.
+fn draw_cue(s: Settings, ws: &[u8], lines: usize, total: usize, picture: &mut [u8])
+    requires { ⌜ InRange s × (pictureBytes s ≤ length (now picture)) × Lined s (now ws) lines total ⌝ }
+    ensures { λ _. ⌜ now (picture .exit) ≡ pictureAfter s (strokesAt s (now (ws .entry)) 0 0 lines) total (now (picture .entry)) ⌝ }
 {
-    let made = wrap::wrap_runs(ws, count, layout::column_limit(s));
-    let total = made.letters * (1 + 8 * s.outline());
     clear(picture, s.picture_bytes());
     let rows = Rows {
         width: s.width as usize,
@@ -109,8 +158,7 @@ fn draw_letters(s: Settings, ws: &mut [u8], count: usize, picture: &mut [u8]) ->
         first: 0,
     };
     let all = Window { from: 0, to: total };
-    strokes::draw_lines(picture, rows, ws, s, made.lines, all);
-    total
+    strokes::draw_lines(picture, rows, ws, s, lines, all);
 }
 
 // The call Draw: the picture then shows the tape's caption on zeros, and the answer is how many
@@ -118,15 +166,15 @@ fn draw_letters(s: Settings, ws: &mut [u8], count: usize, picture: &mut [u8]) ->
 pub fn render_into(s: Settings, tape: &[u8], ws: &mut [u8], picture: &mut [u8]) -> Answer
     ensures { λ r. ⌜ Drawn s (now (tape .entry)) (now (ws .entry)) (now (ws .exit)) (now (picture .entry)) (now (picture .exit)) r ⌝ }
 {
-    if s.is_out_of_range() {
-        return Answer::Refused(8, 0);
+    let fault = station_fault(s, tape, ws.len(), picture.len());
+    if 0 < fault {
+        return Answer::Refused(fault, 0);
     }
-    if picture.len() < s.picture_bytes() {
-        return Answer::Refused(9, 0);
-    }
-    let color = s.default_color;
-    match tape::read_tape(tape, ws, Style::default_with(color)) {
-        tape::Answer::Letters(count) => Answer::Strokes(draw_letters(s, ws, count, picture)),
-        tape::Answer::Refused(number, place) => Answer::Refused(number, place),
+    match read_cue(s, tape, ws) {
+        Cue::Laid(lines, total) => {
+            draw_cue(s, ws, lines, total, picture);
+            Answer::Strokes(total)
+        }
+        Cue::Refused(number, place) => Answer::Refused(number, place),
     }
 }

@@ -7,14 +7,17 @@ ghost use lib.ListN.{length};
 ghost use Rattle.font.specs.Font.{glyphRows};
 ghost use Rattle.font.specs.Stroke.{origin};
 ghost use Rattle.tape.specs.Stored.{letterAt};
+ghost use Rattle.wrap.specs.Laid.{columnsOn};
+ghost use Rattle.compositor.specs.Layout.{lineWidth, lineStart};
 ghost use Rattle.compositor.specs.Outline.{distance, onRing, ringRow, ring};
 ghost use Rattle.compositor.specs.Strokes.{stroke, outlineStrokes, letterStrokes, lineStrokes};
 ghost use Rattle.compositor.specs.Read.{lettersAt, lettersFrom, strokesAt, Readable};
-ghost use Rattle.compositor.specs.Painting.{Lent, Near, Fonts, cut, after, painted, Painted};
-ghost use Rattle.compositor.specs.Drawn.{InRange};
+ghost use Rattle.compositor.specs.Painting.{Lent, Near, Fonts, cut, misses, after, offRows, painted, Painted};
+ghost use Rattle.compositor.specs.Ready.{InRange};
 use crate::Settings;
 use crate::layout;
 use font::BitmapFont;
+use font::ORIGIN;
 use font::Pen;
 use tape::letter;
 use wrap::laid;
@@ -35,13 +38,23 @@ pub struct Window {
 }
 
 impl Window {
-    // The window counted from the next stroke.
-    fn next(self) -> Window
-        ensures { λ r. ⌜ r ≡ after self 1 ⌝ }
+    // Whether it has none of the next n strokes.
+    fn misses(self, n: usize) -> bool
+        ensures { λ r. ⌜ r ≡ misses self n ⌝ }
+    {
+        if n <= self.from {
+            return true;
+        }
+        self.to == 0
+    }
+
+    // The window counted from the stroke after the next n.
+    fn past(self, n: usize) -> Window
+        ensures { λ r. ⌜ r ≡ after self n ⌝ }
     {
         Window {
-            from: layout::minus(self.from, 1),
-            to: layout::minus(self.to, 1),
+            from: layout::minus(self.from, n),
+            to: layout::minus(self.to, n),
         }
     }
 }
@@ -61,11 +74,8 @@ fn draw_stroke(
     ensures { λ r. ⌜ Painted rows (stroke (now (glyph .entry)) (now (offsets .entry)) (pen .color) x y ∷ [])
         window (now (part .entry)) (now (part .exit)) r ⌝ }
 {
-    if 0 < window.from {
-        return window.next();
-    }
-    if window.to == 0 {
-        return window;
+    if window.misses(1) {
+        return window.past(1);
     }
     font::draw_glyph_sheared(
         part,
@@ -78,7 +88,7 @@ fn draw_stroke(
         y,
         pen,
     );
-    window.next()
+    window.past(1)
 }
 
 fn distance(o: usize, d: usize) -> usize
@@ -202,7 +212,8 @@ fn offsets_of(upright: &[u8; 16], slanted: &[u8; 16], italic: bool) -> [u8; 16]
     if italic { *slanted } else { *upright }
 }
 
-// Draws a letter of the workspace: its outline, and then itself.
+// Draws a letter of the workspace: its outline, and then itself. Where the window has none of its
+// strokes the letter is not looked at.
 fn draw_letter(
     part: &mut [u8],
     rows: Rows,
@@ -222,6 +233,10 @@ fn draw_letter(
     ensures { λ r. ⌜ Painted rows (letterStrokes s (letterAt (now (ws .entry)) number) x y)
         window (now (part .entry)) (now (part .exit)) r ⌝ }
 {
+    let strokes = s.letter_strokes();
+    if window.misses(strokes) {
+        return window.past(strokes);
+    }
     let code = letter::code(ws, number);
     let style = letter::style(ws, number);
     let glyph = glyph_of(regular, bold, style.bold, code);
@@ -293,6 +308,67 @@ fn draw_line(
     left
 }
 
+// Whether lines at place y miss the lent rows, outlined by o.
+fn is_off(rows: Rows, y: usize, o: usize) -> bool
+    requires { ⌜ (rows .count ≤ 4096) × (rows .first ≤ 4096) × (y < 2 * origin) × (o ≤ 2) ⌝ }
+    ensures { λ r. ⌜ r ≡ offRows rows y o ⌝ }
+{
+    let top = ORIGIN + rows.first;
+    let below = BitmapFont::CELL_H as usize - BitmapFont::BEARING_Y as usize;
+    if y + o + below <= top {
+        return true;
+    }
+    top + rows.count + o + BitmapFont::BEARING_Y as usize <= y
+}
+
+// Draws a line of the workspace's table at place y, its letters from the `first` on. Where it misses
+// the lent rows, or the window has none of its strokes, no letter is looked at.
+fn place_line(
+    part: &mut [u8],
+    rows: Rows,
+    regular: &[u8; 4096],
+    bold: &[u8; 4096],
+    upright: &[u8; 16],
+    slanted: &[u8; 16],
+    ws: &[u8],
+    line: usize,
+    first: usize,
+    letters: usize,
+    s: Settings,
+    y: usize,
+    window: Window,
+) -> Window
+    requires { ⌜ Lent (length (now part)) rows × Fonts (now regular) (now bold) (now upright) (now slanted)
+        × Readable (now ws) (first + letters) × InRange s × (line ≤ 4096) × (32 ≤ y) × (y + 16 < 2 * origin) ⌝ }
+    ensures { λ r. ⌜ Painted rows
+        (lineStrokes s (lineStart s (lineWidth (columnsOn (now (ws .entry)) line))) y (lettersAt (now (ws .entry)) first letters))
+        window (now (part .entry)) (now (part .exit)) r ⌝ }
+{
+    let strokes = letters * s.letter_strokes();
+    if is_off(rows, y, s.outline()) {
+        return window.past(strokes);
+    }
+    if window.misses(strokes) {
+        return window.past(strokes);
+    }
+    let x = layout::line_start(s, layout::measure_line(ws, line));
+    draw_line(
+        part,
+        rows,
+        regular,
+        bold,
+        upright,
+        slanted,
+        ws,
+        first,
+        letters,
+        s,
+        x,
+        y,
+        window,
+    )
+}
+
 // Draws the lines of the workspace's table, so many, from the top down.
 fn draw_each_line(
     part: &mut [u8],
@@ -315,9 +391,8 @@ fn draw_each_line(
     let mut i = 0;
     while i < lines {
         let letters = laid::letters_on(ws, i);
-        let x = layout::line_start(s, layout::measure_line(ws, i));
         let y = layout::baseline(s, lines - 1 - i);
-        left = draw_line(
+        left = place_line(
             part,
             rows,
             regular,
@@ -325,10 +400,10 @@ fn draw_each_line(
             upright,
             slanted,
             ws,
+            i,
             first,
             letters,
             s,
-            x,
             y,
             left,
         );

@@ -9,7 +9,7 @@ use native.Mathlib.Omega.{arith}
 use borrow.Author.Tests.{le-leb, lt-leb, lt-ltb, le-ltb}
 use lib.Dec.{leb, ltb}
 use lib.ListN.{length, getD, take, drop, length-append, length-drop, take-append-drop}
-use lib.Seq.{length-take-le, take-at, drop-at, drop-drop, take-add}
+use lib.Seq.{length-take-le, take-at, drop-at, drop-drop, take-take, take-add}
 use Rattle.font.specs.Font.{bearingY}
 use Rattle.font.specs.Stroke.{origin, paintRow, strokeRow, eachRow}
 use Rattle.font.proofs.Columns.{cond-length, cond-same, columns-length, columns-clear}
@@ -74,22 +74,106 @@ module _ (f : ℕ → List ℕ → List ℕ) (size : ℕ) where
         e,
       ) w
 
--- a change that keeps each row as long as it is
-module _ (f : ℕ → List ℕ → List ℕ) (size : ℕ) (same : (y : ℕ) (row : List ℕ) → length (f y row) ≡ length row) where
+-- a change that keeps each row `size` bytes long
+module _ (f : ℕ → List ℕ → List ℕ) (size : ℕ) (same : (y : ℕ) (row : List ℕ) → length row ≡ size → length (f y row) ≡ size) where
+  first-long : (n y : ℕ) (l : List ℕ) → suc n * size ≤ length l → length (f y (take size l)) ≡ size
+  first-long n y l h = let wide = suc-mul n size in same y (take size l) (length-take-le size l (omega arith))
+
+  rest-fits : (n : ℕ) (l : List ℕ) → suc n * size ≤ length l → n * size ≤ length (drop size l)
+  rest-fits n l h = let wide = suc-mul n size in rw length-drop (omega arith)
+
   -- one change after the other
   pub rows-then : (g : ℕ → List ℕ → List ℕ) (n y : ℕ) (l : List ℕ) → n * size ≤ length l
       → eachRow (λ j row. g j (f j row)) size n y l ≡ eachRow g size n y (eachRow f size n y l)
   unfolding eachRow
   rows-then g zero y l h = refl
   rows-then g (suc n) y l h =
-      let wide = suc-mul n size in
       let rest : List ℕ = eachRow f size n (suc y) (drop size l) in
-      let first : length (f y (take size l)) ≡ size = same y (take size l) ∙ length-take-le size l (omega arith) in
+      let first = first-long n y l h in
       rw (
         take-at (f y (take size l)) rest size first,
         drop-at (f y (take size l)) rest size first,
-        rows-then g n (suc y) (drop size l) (rw length-drop (omega arith)),
+        rows-then g n (suc y) (drop size l) (rest-fits n l h),
       )
+
+  -- behind the first row, and then behind others
+  behind-first : (n y i : ℕ) (l : List ℕ) → suc n * size ≤ length l
+      → drop (suc i * size) (eachRow f size (suc n) y l) ≡ drop (i * size) (eachRow f size n (suc y) (drop size l))
+  unfolding eachRow
+  behind-first n y i l h =
+      let wide : suc i * size ≡ size + i * size = suc-mul i size ∙ add-comm (i * size) size in
+      let rest : List ℕ = eachRow f size n (suc y) (drop size l) in
+      rw (
+        wide,
+        ← (drop-drop (i * size) size (f y (take size l) ++ rest)),
+        drop-at (f y (take size l)) rest size (first-long n y l h),
+      )
+
+  -- what stands behind them is as it was
+  pub rows-behind : (n y : ℕ) (l : List ℕ) → n * size ≤ length l → drop (n * size) (eachRow f size n y l) ≡ drop (n * size) l
+  unfolding eachRow
+  rows-behind zero y l h = refl
+  rows-behind (suc n) y l h =
+      let wide : size + n * size ≡ suc n * size = sym (suc-mul n size ∙ add-comm (n * size) size) in
+      behind-first n y n l h
+      ∙ rows-behind n (suc y) (drop size l) (rest-fits n l h)
+      ∙ drop-drop (n * size) size l
+      ∙ ap (λ (k : ℕ). drop k l) wide
+
+  -- row i of them is row i, changed
+  pub row-at : (i n y : ℕ) (l : List ℕ) → i < n → n * size ≤ length l
+      → take size (drop (i * size) (eachRow f size n y l)) ≡ f (y + i) (take size (drop (i * size) l))
+  unfolding eachRow
+  row-at i zero y l h k = absurd (omega arith)
+  row-at zero (suc n) y l h k =
+      rw (zero-mul, add-zero) (take-at (f y (take size l)) (eachRow f size n (suc y) (drop size l)) size (first-long n y l k))
+  row-at (suc i) (suc n) y l h k =
+      let wide : size + i * size ≡ suc i * size = sym (suc-mul i size ∙ add-comm (i * size) size) in
+      let next : suc y + i ≡ y + suc i = omega arith in
+      ap (take size) (behind-first n y i l k)
+      ∙ row-at i n (suc y) (drop size l) (omega arith) (rest-fits n l k)
+      ∙ ap (λ (r : List ℕ). f (suc y + i) (take size r)) (drop-drop (i * size) size l ∙ ap (λ (m : ℕ). drop m l) wide)
+      ∙ ap (λ (j : ℕ). f j (take size (drop (suc i * size) l))) next
+
+  pub rows-length : (n y : ℕ) (l : List ℕ) → n * size ≤ length l → length (eachRow f size n y l) ≡ length l
+  unfolding eachRow
+  rows-length zero y l h = refl
+  rows-length (suc n) y l h =
+      let wide = suc-mul n size in
+      let first = first-long n y l h in
+      let rest = rows-length n (suc y) (drop size l) (rest-fits n l h) in
+      let back = length-drop size l in
+      length-append (f y (take size l)) _ ∙ omega arith
+
+-- two changes that agree on the first a rows, and keep the others
+module _ (f g : ℕ → List ℕ → List ℕ) (size : ℕ) where
+  pub rows-front : (a b y : ℕ) (l : List ℕ) → ((j : ℕ) (r : List ℕ) → j < a → f (y + j) r ≡ g (y + j) r)
+      → ((j : ℕ) (r : List ℕ) → a ≤ j → j < a + b → f (y + j) r ≡ r) → eachRow f size (a + b) y l ≡ eachRow g size a y l
+  unfolding eachRow
+  rows-front zero b y l alike keep =
+      ap (λ (n : ℕ). eachRow f size n y l) (zero-add b) ∙ rows-kept f size b y l (λ j r h. keep j r (omega arith) (omega arith))
+  rows-front (suc a) b y l alike keep =
+      let first : f y (take size l) ≡ g y (take size l) = rw add-zero at (alike 0 (take size l) (omega arith)) in
+      let step : (j : ℕ) → y + suc j ≡ suc y + j = λ j. omega arith in
+      let rest = rows-front a b (suc y) (drop size l)
+      (λ j r h. subst (λ (m : ℕ). f m r ≡ g m r) (step j) (alike (suc j) r (omega arith)))
+      (λ j r h k. subst (λ (m : ℕ). f m r ≡ r) (step j) (keep (suc j) r (omega arith) (omega arith))) in
+      rw (suc-add, first, rest)
+
+-- rows of a part that ends with them, and what stands behind the part
+pub rows-part : (f : ℕ → List ℕ → List ℕ) (size n y : ℕ) (l : List ℕ) → n * size ≤ length l
+    → eachRow f size n y (take (n * size) l) ++ drop (n * size) l ≡ eachRow f size n y l
+unfolding eachRow
+rows-part f size zero y l h = rw (zero-mul)
+rows-part f size (suc n) y l h =
+    let wide : suc n * size ≡ size + n * size = suc-mul n size ∙ add-comm (n * size) size in
+    let one : take size (take (suc n * size) l) ≡ take size l = take-take size (suc n * size) l (omega arith) in
+    let others : drop size (take (suc n * size) l) ≡ take (n * size) (drop size l) =
+    ap (λ (k : ℕ). drop size (take k l)) wide
+    ∙ ap (drop size) (take-add size (n * size) l)
+    ∙ drop-at (take size l) (take (n * size) (drop size l)) size (length-take-le size l (omega arith)) in
+    let back : drop (suc n * size) l ≡ drop (n * size) (drop size l) = ap (λ (k : ℕ). drop k l) wide ∙ sym (drop-drop (n * size) size l) in
+    rw (one, others, back, append-assoc, rows-part f size n (suc y) (drop size l) (rw length-drop (omega arith)))
 
 -- the cases of a stroke's row
 module _ (glyph offsets k : List ℕ) (x base y : ℕ) (row : List ℕ) where

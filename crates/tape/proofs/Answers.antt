@@ -4,7 +4,7 @@ use mathlib.Core.Bool.{Bool, true, false}
 use mathlib.Core.List.{List}
 use Prim.Native.Nat.{ℕ, _≤_}
 use native.Mathlib.Omega.{arith}
-use borrow.Author.Tests.{ltb-false}
+use borrow.Author.Tests.{le-ltb, ltb-false}
 use lib.Dec.{lit≤, ltb}
 use lib.ListN.{length}
 use Rattle.tape.specs.declared.Style.{Style}
@@ -55,6 +55,11 @@ fits s room tape = long (ltb mostBytes (length tape)) refl (ltb room leastRoom) 
     long true e u f = (lit≤ tt, omega arith, lit≤ tt, λ h. lit≤ tt)
     long false e true f = (lit≤ tt, omega arith, lit≤ tt, λ h. lit≤ tt)
     long false e false f = own (tapeLetters s tape) (ltb-false mostBytes (length tape) e) (ltb-false room leastRoom f) (letters-bounded s tape)
+
+-- with lengths that are admitted, only the tape decides
+pub read-is : (s : Style) (room : ℕ) (tape : List ℕ) → length tape ≤ mostBytes → leastRoom ≤ room → tapeRead s room tape ≡ tapeLetters s tape
+unfolding tapeRead
+read-is s room tape short enough = rw (le-ltb mostBytes (length tape) short, le-ltb room leastRoom enough)
 
 -- ---- the answers
 

@@ -17,3 +17,8 @@ module _ {A : Type 0} where
   abbrev pub onAccepted : {B : Type 0} → (A → B) → Outcome A → Outcome B
   onAccepted f (accepted a) = accepted (f a)
   onAccepted f (refused number place) = refused number place
+
+  -- what comes next of what is accepted; a refusal stays
+  abbrev pub andThen : {B : Type 0} → (A → Outcome B) → Outcome A → Outcome B
+  andThen next (accepted a) = next a
+  andThen next (refused number place) = refused number place

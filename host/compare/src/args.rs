@@ -1,7 +1,7 @@
 //! The words of the command line.
 
 pub const USAGE: &str = "\
-usage: compare [--pictures N] [--tapes N] [--cues N] [--frames N] [--seed S]
+usage: compare [--pictures N] [--tapes N] [--cues N] [--frames N] [--jobs N] [--seed S]
                                 compare the proved crates with the original
        compare specimen         write what the original draws for U+0000 to U+0100
        compare sample           write the tapes that the program `letters` reads
@@ -12,7 +12,7 @@ usage: compare [--pictures N] [--tapes N] [--cues N] [--frames N] [--seed S]
        compare draw-sample      write the settings and tapes that the program `replay` reads
        compare draw-sample-answers
                                 write what the original draws of them
-       compare speed            write how long both take, and the ratio";
+       compare speed            write how long both take, and the ratio; and Open and Work alone";
 
 #[derive(Debug, PartialEq)]
 pub enum Command {
@@ -34,6 +34,7 @@ pub struct Extent {
     pub tapes: u64,
     pub cues: u64,
     pub frames: u64,
+    pub jobs: u64,
     pub seed: u64,
 }
 
@@ -55,6 +56,7 @@ pub fn parse(words: &[String]) -> Option<Command> {
         tapes: 200_000,
         cues: 200_000,
         frames: 200_000,
+        jobs: 50_000,
         seed: 1,
     };
     let (pairs, rest) = words.as_chunks::<2>();
@@ -64,6 +66,7 @@ pub fn parse(words: &[String]) -> Option<Command> {
             "--tapes" => extent.tapes = value.parse().ok()?,
             "--cues" => extent.cues = value.parse().ok()?,
             "--frames" => extent.frames = value.parse().ok()?,
+            "--jobs" => extent.jobs = value.parse().ok()?,
             "--seed" => extent.seed = value.parse().ok()?,
             _ => return None,
         }

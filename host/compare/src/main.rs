@@ -7,10 +7,12 @@ mod draw;
 mod fenced;
 mod font;
 mod hex;
+mod proved;
 mod random;
 mod refusal;
 mod tape;
 mod timing;
+mod work;
 mod wrap;
 
 use args::{Command, Extent, USAGE};
@@ -47,7 +49,8 @@ fn main() -> ExitCode {
         Command::Speed => {
             let tables = tape::speed::table(&original)
                 + &wrap::speed::table(&original)
-                + &draw::speed::tables(&original);
+                + &draw::speed::tables(&original)
+                + &work::speed::tables();
             write(tables.as_bytes())
         }
     }
@@ -61,6 +64,7 @@ fn compare(original: &Original, extent: Extent) -> ExitCode {
     counts.extend(tape::compare(original, seed, extent.tapes));
     counts.extend(wrap::compare(original, seed, extent.cues));
     counts.extend(draw::compare(original, seed, extent.frames));
+    counts.extend(work::compare(original, seed, extent.jobs));
     let (mut passed, mut failed) = (0, 0);
     for count in &counts {
         count.show();

@@ -18,6 +18,11 @@ pub fn halves(answer: u64) -> Result<usize, Refusal> {
     }
 }
 
+/// A refusal that has no place.
+pub fn plain<T>(number: u32) -> Result<T, Refusal> {
+    Err(Refusal { number, place: 0 })
+}
+
 /// How many outcomes were admitted, and how many refused with each number.
 #[derive(Default)]
 pub struct Tally {

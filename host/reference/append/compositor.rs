@@ -35,6 +35,52 @@ pub fn count_lines(
     flatten_and_wrap(segments, color, max_cols).len()
 }
 
+/// Counts the strokes that the draw loop comes to, and draws those of a window.
+struct Strokes {
+    window: std::ops::Range<usize>,
+    met: std::cell::Cell<usize>,
+}
+
+impl Strokes {
+    fn draw(
+        &self,
+        font: &BitmapFont,
+        ch: char,
+        dst: &mut [u8],
+        width: u32,
+        height: u32,
+        x: i32,
+        y: i32,
+        color: [u8; 4],
+        shear: f32,
+    ) {
+        let number = self.met.get();
+        self.met.set(number + 1);
+        if self.window.contains(&number) {
+            font.draw_glyph_sheared(ch, dst, width, height, x, y, color, shear);
+        }
+    }
+}
+
+/// Draws those strokes of a cue whose numbers, from 0 in the original's order, lie in the window,
+/// over what the buffer holds. Answers how many strokes the cue has. The loop with the counter, which
+/// the build makes of the original's, stands below.
+pub fn draw_strokes(
+    compositor: &Compositor,
+    cue: &SubtitleCue,
+    dst: &mut [u8],
+    window: std::ops::Range<usize>,
+) -> usize {
+    let strokes = Strokes {
+        window,
+        met: Default::default(),
+    };
+    let said = cue.positioning.as_ref();
+    let align = said.map_or(TextAlign::Center, |said| said.align);
+    compositor.counted_bitmap(&strokes, cue, dst, align);
+    strokes.met.get()
+}
+
 fn flatten_and_wrap(
     segments: &[oxideav_core::Segment],
     color: [u8; 4],

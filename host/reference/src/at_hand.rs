@@ -4,6 +4,7 @@ use crate::compositor::{self, Compositor};
 use crate::font::BitmapFont;
 use crate::{Line, Run, Settings};
 use oxideav_core::{Segment, SubtitleCue};
+use std::ops::Range;
 
 /// The original: its fonts, and the functions of its compositor. Only [`crate::original`] makes one.
 pub struct Original {
@@ -91,14 +92,47 @@ impl Original {
 
     /// Draws a cue, with no face, into a buffer that begins with the picture.
     pub fn render_into(&self, settings: Settings, cue: &SubtitleCue, dst: &mut [u8]) {
-        let mut compositor = Compositor::new(settings.width, settings.height);
-        compositor.default_color = settings.default_color;
-        compositor.outline_color = settings.outline_color;
-        compositor.line_height_px = settings.line_height;
-        compositor.bottom_margin_px = settings.bottom_margin;
-        compositor.outline_px = settings.outline;
-        compositor.render_into(cue, dst);
+        compositor(settings).render_into(cue, dst);
     }
+
+    /// Clears the picture as `render_into` does and draws the first of the cue's strokes, so many.
+    /// Answers how many there are in all.
+    pub fn render_strokes(
+        &self,
+        settings: Settings,
+        cue: &SubtitleCue,
+        dst: &mut [u8],
+        strokes: usize,
+    ) -> usize {
+        let nothing = SubtitleCue {
+            segments: Vec::new(),
+            positioning: None,
+        };
+        self.render_into(settings, &nothing, dst);
+        self.draw_strokes(settings, cue, dst, 0..strokes)
+    }
+
+    /// Draws the cue's strokes with these numbers alone, over what the buffer holds. Answers how many
+    /// there are in all.
+    pub fn draw_strokes(
+        &self,
+        settings: Settings,
+        cue: &SubtitleCue,
+        dst: &mut [u8],
+        window: Range<usize>,
+    ) -> usize {
+        compositor::draw_strokes(&compositor(settings), cue, dst, window)
+    }
+}
+
+fn compositor(settings: Settings) -> Compositor {
+    let mut compositor = Compositor::new(settings.width, settings.height);
+    compositor.default_color = settings.default_color;
+    compositor.outline_color = settings.outline_color;
+    compositor.line_height_px = settings.line_height;
+    compositor.bottom_margin_px = settings.bottom_margin;
+    compositor.outline_px = settings.outline;
+    compositor
 }
 
 fn runs(opened: Vec<compositor::Opened>) -> Vec<Run> {

@@ -1,5 +1,5 @@
-//! The original: `font.rs` and `compositor.rs` of oxideav-subtitle, compiled unchanged, and what
-//! the comparison asks of them.
+//! The original: `font.rs` and `compositor.rs` of oxideav-subtitle, compiled unchanged, its draw loop
+//! once more with a counter in it, and what the comparison asks of them.
 //!
 //! `build.rs` looks for the two files. Where they are missing the crate still builds, [`original`]
 //! answers `None`, and nothing of them is imitated.

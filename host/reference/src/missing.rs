@@ -2,6 +2,7 @@
 
 use crate::{Line, Run, Settings};
 use oxideav_core::{Segment, SubtitleCue};
+use std::ops::Range;
 
 /// The original. There is none here, so no method of this type is ever called.
 pub enum Original {}
@@ -53,6 +54,28 @@ impl Original {
 
     /// Draws a cue, where the original is at hand.
     pub fn render_into(&self, _settings: Settings, _cue: &SubtitleCue, _dst: &mut [u8]) {
+        match *self {}
+    }
+
+    /// Draws a cue's first strokes, where the original is at hand.
+    pub fn render_strokes(
+        &self,
+        _settings: Settings,
+        _cue: &SubtitleCue,
+        _dst: &mut [u8],
+        _strokes: usize,
+    ) -> usize {
+        match *self {}
+    }
+
+    /// Draws some of a cue's strokes, where the original is at hand.
+    pub fn draw_strokes(
+        &self,
+        _settings: Settings,
+        _cue: &SubtitleCue,
+        _dst: &mut [u8],
+        _window: Range<usize>,
+    ) -> usize {
         match *self {}
     }
 }

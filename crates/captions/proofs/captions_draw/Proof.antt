@@ -1,7 +1,7 @@
-use native.Mathlib.Omega.{arith}
+use mathlib.Core.Path.{_∙_}
 use Rattle.compositor.specs.Drawn.{Drawn}
-use Rattle.compositor.proofs.Answers.{strokes-are, refusal-is}
 use Rattle.captions.specs.Interface.{settingsOf}
+use Rattle.captions.proofs.Packing.{draw-packs}
 use borrow.Author.Needs.{needs}
 use Rattle.captions.proofs.captions_draw.Statement.{statement}
 use Rattle.captions.proofs.captions_draw.Tie as tie
@@ -20,17 +20,8 @@ settings-requires c κs = search needs
 render-into-requires : tie.Need-render-into-requires
 render-into-requires c κs = search needs
 
-enum-known-strokes : tie.Need-enum-known-strokes
-enum-known-strokes c = search needs
-
-enum-known-number : tie.Need-enum-known-number
-enum-known-number c = search needs
-
-refusal-requires : tie.Need-refusal-requires
-refusal-requires c κs =
-    let after-render-into = c .before .before .before .before .before .before .before in
-    let near = refusal-is (drawn after-render-into) (c .before .number .given .1) .near in
-    omega arith
+packed-requires : tie.Need-packed-requires
+packed-requires c κs = draw-packs (drawn (c .before .before .before .before)) .near
 
 same-length : tie.Need-same-length
 same-length c = search needs
@@ -40,23 +31,8 @@ same-length-2 c = search needs
 
 returns : tie.Need-returns
 returns c =
-    let after-render-into = c .before .before .before .before .before .before .before in
-    let d = drawn after-render-into in
-    let a = strokes-are d (c .before .strokes .given .1) in
-    record { answers = rw (a .means) (a .count-is); paints = d .paints; leaves = d .leaves }
-
-same-length-3 : tie.Need-same-length-3
-same-length-3 c = search needs
-
-same-length-4 : tie.Need-same-length-4
-same-length-4 c = search needs
-
-returns-2 : tie.Need-returns-2
-returns-2 c =
-    let after-number = c .before .before in
-    let after-render-into = after-number .before .before .before .before .before .before in
-    let d = drawn after-render-into in
-    record { answers = rw (refusal-is d (after-number .number .given .1) .means) (c .refusal .ensures); paints = d .paints; leaves = d .leaves }
+    let d = drawn (c .before .before .before .before .before) in
+    record { answers = c .packed .ensures ∙ draw-packs d .is; paints = d .paints; leaves = d .leaves }
 
 pub captions-draw-spec : {M : Type 1} → statement M
 captions-draw-spec =
@@ -64,12 +40,7 @@ captions-draw-spec =
     (tie.spec
     settings-requires
     render-into-requires
-    enum-known-strokes
-    enum-known-number
-    refusal-requires
+    packed-requires
     same-length
     same-length-2
-    returns
-    same-length-3
-    same-length-4
-    returns-2)
+    returns)

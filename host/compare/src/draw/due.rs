@@ -2,24 +2,28 @@
 
 use crate::draw::frame::{Drawn, Frame, Outcome};
 use crate::draw::settings::{ALIGNMENTS, LINE_HEIGHT_MAX, SIDE_MAX, Settings};
-use crate::refusal::Refusal;
+use crate::refusal::{Refusal, plain};
 use crate::tape::letters::{self, segments};
 use crate::tape::{MOST_BYTES, ROOM, reading};
-use oxideav_core::SubtitleCue;
+use oxideav_core::{Segment, SubtitleCue};
 use reference::Original;
 
-/// What the original draws of a cue over these bytes, with its letters on lines counted for the
-/// strokes.
+/// What the original draws of a cue over these bytes, and its strokes.
 pub fn drawn(original: &Original, settings: &Settings, cue: &SubtitleCue, bytes: &[u8]) -> Drawn {
     let mut bytes = bytes.to_vec();
     original.render_into(settings.told(), cue, &mut bytes);
-    let lines = original.wrap(&cue.segments, settings.default_color, settings.limit());
-    let pieces = lines.iter().flat_map(|line| &line.pieces);
-    let letters: usize = pieces.map(|piece| piece.text.chars().count()).sum();
     Drawn {
-        strokes: letters * settings.strokes(),
+        strokes: strokes(original, settings, &cue.segments),
         bytes,
     }
+}
+
+/// All strokes of a cue: the original's letters on lines are counted for them.
+pub fn strokes(original: &Original, settings: &Settings, segments: &[Segment]) -> usize {
+    let lines = original.wrap(segments, settings.default_color, settings.limit());
+    let pieces = lines.iter().flat_map(|line| &line.pieces);
+    let letters: usize = pieces.map(|piece| piece.text.chars().count()).sum();
+    letters * settings.strokes()
 }
 
 /// What is due of a call of any kind. Where it is not refused, the original draws the letters that
@@ -36,21 +40,26 @@ pub fn of_frame(original: &Original, frame: &Frame) -> Outcome {
 
 /// The letters of a call's tape, or the first thing that stops it.
 pub fn letters(frame: &Frame) -> letters::Outcome {
+    station(frame)?;
+    reading::read(&frame.tape, frame.settings.default_color)
+}
+
+/// What stops a call before its tape is read, if anything.
+pub fn station(frame: &Frame) -> Result<(), Refusal> {
     let settings = &frame.settings;
-    let refused = |number| Err(Refusal { number, place: 0 });
     if settings.width > SIDE_MAX
         || settings.height > SIDE_MAX
         || settings.line_height > LINE_HEIGHT_MAX
         || !ALIGNMENTS.contains(&settings.alignment)
     {
-        refused(8)
+        plain(8)
     } else if frame.bytes.len() < settings.area() {
-        refused(9)
+        plain(9)
     } else if frame.tape.len() > MOST_BYTES {
-        refused(10)
+        plain(10)
     } else if frame.room < ROOM {
-        refused(11)
+        plain(11)
     } else {
-        reading::read(&frame.tape, settings.default_color)
+        Ok(())
     }
 }

@@ -1,10 +1,11 @@
-//! One call of the proved Draw between fences, held to what is due of it.
+//! A frame: what a call that draws is told and lent, between fences; and Draw's, held to what is due
+//! of it.
 
-use crate::draw::proved;
 use crate::draw::settings::{SIDE_MAX, Settings};
-use crate::fenced::{Fenced, Lent};
+use crate::fenced::Fenced;
 use crate::font::picture::fence;
 use crate::hex::hex;
+use crate::proved::{self, Buffers};
 use crate::random::Random;
 use crate::refusal::Refusal;
 use std::fmt::{self, Display, Formatter};
@@ -30,6 +31,13 @@ pub struct Drawn {
 
 pub type Outcome = Result<Drawn, Refusal>;
 
+/// A call's answer, and what it left of the bytes lent to it.
+pub struct Left {
+    pub answer: Result<usize, Refusal>,
+    pub picture: Fenced,
+    workspace: Fenced,
+}
+
 impl Frame {
     /// Calls Draw and holds its answer, and what it did to the bytes lent, to what is due.
     pub fn hold(&self, due: &Outcome) -> Result<(), String> {
@@ -38,40 +46,59 @@ impl Frame {
     }
 
     fn call(&self, due: &Outcome) -> Result<(), String> {
-        let own = self.settings.area().min(self.bytes.len());
-        let mut picture = Fenced::new(&self.bytes, fence(self.settings.width.min(SIDE_MAX)));
-        let mut random = Random::new(0, own as u64);
-        let mut workspace = Fenced::workspace(&mut random, self.room);
-        let mut tape = Fenced::new(&self.tape, BESIDE);
-        let drawn = picture.lend(0..own, self.bytes.len() - own, |picture| {
-            workspace.lend(0..self.room, 0, |workspace| {
-                tape.lend(0..0, self.tape.len(), |tape| {
-                    proved::draw(&self.settings, tape, workspace, picture)
-                })
-            })
-        });
-        let Lent { answer, kept } = drawn.answer.answer;
-        let outside = [
-            ("outside the picture", drawn.kept),
-            ("outside the workspace", drawn.answer.kept),
-            ("on the tape or beside it", kept),
-        ];
-        if let Some((what, _)) = outside.iter().find(|(_, kept)| !kept) {
-            return Err(format!("{answer:?} wrote {what}"));
-        }
-        match (answer, due) {
+        let left = self.lend(|buffers| proved::draw(&self.settings, buffers))?;
+        match (left.answer, due) {
             (Ok(strokes), Ok(due)) if strokes == due.strokes => {
-                self.same(picture.inside(), &due.bytes)
+                self.same(left.picture.inside(), &due.bytes)
             }
-            (Err(refusal), Err(due)) if refusal == *due => kept_by(refusal, &picture, &workspace),
-            _ => {
+            (Err(refusal), Err(due)) if refusal == *due => left.kept_by(refusal),
+            (answer, due) => {
                 let due = due.as_ref().map(|due| due.strokes);
                 Err(format!("{answer:?} where {due:?} is due"))
             }
         }
     }
 
-    fn same(&self, found: &[u8], due: &[u8]) -> Result<(), String> {
+    /// Makes a call that is lent tape, workspace and picture, each between fences.
+    pub fn lend(
+        &self,
+        call: impl FnOnce(Buffers) -> Result<usize, Refusal>,
+    ) -> Result<Left, String> {
+        let own = self.settings.area().min(self.bytes.len());
+        let mut picture = Fenced::new(&self.bytes, fence(self.settings.width.min(SIDE_MAX)));
+        // Calls on one picture that have other rooms find other bytes there.
+        let mut random = Random::new(self.room as u64, own as u64);
+        let mut workspace = Fenced::workspace(&mut random, self.room);
+        let mut tape = Fenced::new(&self.tape, BESIDE);
+        let made = picture.lend(0..own, self.bytes.len() - own, |picture| {
+            workspace.lend(0..self.room, 0, |workspace| {
+                tape.lend(0..0, self.tape.len(), |tape| {
+                    call(Buffers {
+                        tape,
+                        workspace,
+                        picture,
+                    })
+                })
+            })
+        });
+        let outside = [
+            ("outside the picture", made.kept),
+            ("outside the workspace", made.answer.kept),
+            ("on the tape or beside it", made.answer.answer.kept),
+        ];
+        let answer = made.answer.answer.answer;
+        match outside.iter().find(|(_, kept)| !kept) {
+            Some((what, _)) => Err(format!("{answer:?} wrote {what}")),
+            None => Ok(Left {
+                answer,
+                picture,
+                workspace,
+            }),
+        }
+    }
+
+    /// Holds what the picture's buffer holds to what is due of it.
+    pub fn same(&self, found: &[u8], due: &[u8]) -> Result<(), String> {
         if found == due {
             return Ok(());
         }
@@ -90,14 +117,16 @@ impl Frame {
     }
 }
 
-/// A refusal leaves the picture, and 8 to 11 leave the workspace too.
-fn kept_by(refusal: Refusal, picture: &Fenced, workspace: &Fenced) -> Result<(), String> {
-    if !picture.unchanged() {
-        Err(format!("{refusal:?} but wrote to the picture"))
-    } else if matches!(refusal.number, 8..=11) && !workspace.unchanged() {
-        Err(format!("{refusal:?} but wrote to the workspace"))
-    } else {
-        Ok(())
+impl Left {
+    /// A refusal leaves the picture, and 8 to 11 and 13 leave the workspace too.
+    pub fn kept_by(&self, refusal: Refusal) -> Result<(), String> {
+        if !self.picture.unchanged() {
+            Err(format!("{refusal:?} but wrote to the picture"))
+        } else if matches!(refusal.number, 8..=11 | 13) && !self.workspace.unchanged() {
+            Err(format!("{refusal:?} but wrote to the workspace"))
+        } else {
+            Ok(())
+        }
     }
 }
 

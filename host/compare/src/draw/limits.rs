@@ -21,7 +21,7 @@ pub fn compare(original: &Original) -> Count {
 }
 
 /// All lines of 4,096 letters in words.
-fn wide() -> Settings {
+pub fn wide() -> Settings {
     Settings {
         alignment: 1,
         outline: 0,
@@ -30,7 +30,7 @@ fn wide() -> Settings {
 }
 
 /// One letter a line, and few of the lines.
-fn narrow() -> Settings {
+pub fn narrow() -> Settings {
     Settings {
         outline: 2,
         ..translucent(9, 40)
@@ -38,7 +38,7 @@ fn narrow() -> Settings {
 }
 
 /// Lines so far apart that the first of many stand four million rows above the picture.
-fn tall() -> Settings {
+pub fn tall() -> Settings {
     Settings {
         line_height: 1024,
         alignment: 4,

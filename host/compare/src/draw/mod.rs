@@ -1,18 +1,18 @@
 //! Draw: cues drawn by the original and by the proved call, every byte of the buffer compared, and
 //! calls of every kind held to what document 01 asks of them.
 
-mod cases;
-mod due;
-mod frame;
-mod generate;
+pub mod cases;
+pub mod due;
+pub mod frame;
+pub mod generate;
 mod glyphs;
 mod kinds;
-mod limits;
+pub mod limits;
 mod places;
-mod proved;
-mod refusals;
+pub mod refusals;
 pub mod sample;
-mod settings;
+pub mod scenes;
+pub mod settings;
 pub mod speed;
 
 use crate::count::Count;

@@ -7,7 +7,7 @@ use crate::draw::frame::Frame;
 use crate::draw::generate;
 use crate::draw::settings::{LINE_HEIGHT_MAX, SIDE_MAX, Settings};
 use crate::random::Random;
-use crate::refusal::{Refusal, Tally};
+use crate::refusal::{Refusal, Tally, plain};
 use crate::tape::limits::stopped;
 use crate::tape::{MOST_BYTES, ROOM, damage};
 use crate::wrap;
@@ -18,9 +18,9 @@ const DAMAGED: u64 = 0xda_d4a3;
 const ROOMS: [usize; 4] = [ROOM, ROOM + 1, ROOM - 1, 0];
 
 /// A setting put out of its range.
-type Break = fn(&mut Settings);
+pub type Break = fn(&mut Settings);
 
-const BREAKS: [Break; 14] = [
+pub const BREAKS: [Break; 14] = [
     |settings| settings.width = SIDE_MAX + 1,
     |settings| settings.width = 1 << 16,
     |settings| settings.width = 1 << 31,
@@ -71,10 +71,6 @@ pub fn each(original: &Original) -> Count {
     count
 }
 
-fn plain<T>(number: u32) -> Result<T, Refusal> {
-    Err(Refusal { number, place: 0 })
-}
-
 /// The refusal that goes before the others, where no setting is out of range: the picture's, a long
 /// tape's, the workspace's, and then the tape's own.
 fn first(short: bool, room: usize, tape: Option<Refusal>) -> Option<Refusal> {
@@ -97,7 +93,9 @@ pub fn random(original: &Original, seed: u64, frames: u64) -> Count {
     let mut count = Count::new("frames of damaged tapes");
     let mut tally = Tally::default();
     for number in 0..frames {
-        let frame = damaged(&mut Random::new(seed ^ DAMAGED, number));
+        let mut random = Random::new(seed ^ DAMAGED, number);
+        let (width, height) = (random.within_u32(0..=40), random.within_u32(0..=40));
+        let frame = damaged(&mut random, width, height);
         let due = due::of_frame(original, &frame);
         tally.add(&due);
         let found = frame.hold(&due);
@@ -107,8 +105,8 @@ pub fn random(original: &Original, seed: u64, frames: u64) -> Count {
     count
 }
 
-fn damaged(random: &mut Random) -> Frame {
-    let (width, height) = (random.within_u32(0..=40), random.within_u32(0..=40));
+/// A call of a picture of this size with a damaged tape, and now and then with other things wrong.
+pub fn damaged(random: &mut Random, width: u32, height: u32) -> Frame {
     let mut frame = Frame {
         settings: generate::sized(random, width, height),
         tape: damage::tape(random),

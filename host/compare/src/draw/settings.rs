@@ -1,6 +1,7 @@
 //! Document 01's settings, and where the original finds each.
 
 use oxideav_core::{Positioning, TextAlign};
+use std::ops::Range;
 
 /// The most pixels of a side.
 pub const SIDE_MAX: u32 = 4096;
@@ -29,6 +30,12 @@ impl Settings {
         (self.width as usize)
             .saturating_mul(self.height as usize)
             .saturating_mul(4)
+    }
+
+    /// The bytes of some of the picture's rows.
+    pub fn bytes(&self, rows: &Range<usize>) -> Range<usize> {
+        let row = 4 * self.width as usize;
+        rows.start * row..rows.end * row
     }
 
     /// The column limit of its lines.

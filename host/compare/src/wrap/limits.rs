@@ -34,18 +34,22 @@ pub fn compare(original: &Original) -> Count {
 /// The cues with as many letters as there may be, and the tape's own at its limits: every code point
 /// that there is lies in one of these.
 pub fn long() -> impl Iterator<Item = Cue> {
-    let long = LONG.into_iter().map(|(unit, last)| {
+    let tapes = limits::admitted()
+        .into_iter()
+        .map(|(segments, tape)| Cue { segments, tape });
+    full().chain(tapes)
+}
+
+/// Cues with as many letters as there may be.
+pub fn full() -> impl Iterator<Item = Cue> {
+    LONG.into_iter().map(|(unit, last)| {
         let mut text: String = unit.chars().cycle().take(MOST_LETTERS).collect();
         if let Some(last) = last {
             text.pop();
             text.push(last);
         }
         cues::shortest(each_letter(&text))
-    });
-    let tapes = limits::admitted()
-        .into_iter()
-        .map(|(segments, tape)| Cue { segments, tape });
-    long.chain(tapes)
+    })
 }
 
 /// What is repeated to 4,096 letters, and the letter that takes the last one's place.

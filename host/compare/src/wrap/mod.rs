@@ -6,7 +6,7 @@ pub mod cues;
 mod kinds;
 pub mod limits;
 mod lines;
-mod proved;
+pub mod proved;
 mod reading;
 mod refusals;
 pub mod sample;

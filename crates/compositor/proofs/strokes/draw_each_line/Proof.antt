@@ -33,96 +33,61 @@ letters-on-requires c κs =
     let room = c .before .before .before .before .pre .2 .room in
     omega arith
 
-measure-line-requires : tie.Need-measure-line-requires Inv-loop μ-loop
-measure-line-requires c κs =
-    let start = c .before .before .before .before .before in
-    let few = start .pre .4 in
-    let room = start .pre .2 .room in
-    let h = c .before .loop-test .taken in
-    omega arith
-
-line-start-requires : tie.Need-line-start-requires Inv-loop μ-loop
-line-start-requires c κs =
-    let start = c .before .before .before .before .before .before in
-    (start .pre .3, c .measure-line .ensures .1)
-
 sub-baseline : tie.Need-sub-baseline Inv-loop μ-loop
-sub-baseline c = let h = c .before .before .before .loop-test .taken in omega arith
+sub-baseline c = let h = c .before .loop-test .taken in omega arith
 
 sub-baseline-2 : tie.Need-sub-baseline-2 Inv-loop μ-loop
-sub-baseline-2 c = let h = c .before .before .before .loop-test .taken in omega arith
+sub-baseline-2 c = let h = c .before .loop-test .taken in omega arith
 
 baseline-requires : tie.Need-baseline-requires Inv-loop μ-loop
 baseline-requires c κs =
-    let start = c .before .before .before .before .before .before .before in
+    let start = c .before .before .before .before .before in
     let few = start .pre .4 in (start .pre .3, omega arith)
 
-draw-line-requires : tie.Need-draw-line-requires Inv-loop μ-loop
-draw-line-requires c κs =
-    let after-line-start = c .before .before in
-    let after-letters-on = after-line-start .before .before in
-    let in-loop = after-letters-on .before in
+place-line-requires : tie.Need-place-line-requires Inv-loop μ-loop
+place-line-requires c κs =
+    let in-loop = c .before .before .before in
     let at-loop = in-loop .before in
     let s = at-loop .before .before .before in
     let l = at-loop .loop in
     let h = in-loop .loop-test .taken in
-    let n = after-letters-on .letters-on .ensures in
-    let x = after-line-start .line-start .ensures in
+    let n = c .before .before .letters-on .ensures in
     let y = c .before .baseline .ensures in
-    let left = x .1 in
-    let right = x .2 in
     let on = letters-turn (s .args .ws .now) (s .args .lines) (l .i) h in
     let sum = l .inv .1 in
-    let fits = subst (λ (n : ℕ). Lent n (s .args .rows)) (sym (l .inv .2)) (s .pre .0) in (
-      fits,
-      s .pre .1,
-      fewer _ (omega arith) (s .pre .2),
-      record { x-least = omega arith; x-most = omega arith; base-least = y .1; base-most = y .2 },
-      right,
-    )
+    let few = s .pre .4 in
+    let fits = subst (λ (n : ℕ). Lent n (s .args .rows)) (sym (l .inv .2)) (s .pre .0) in
+    (fits, s .pre .1, fewer _ (omega arith) (s .pre .2), s .pre .3, omega arith, y .1, y .2)
 
 add-first : tie.Need-add-first Inv-loop μ-loop
 add-first c =
-    let after-letters-on = c .before .before .before .before .before .before .before in
-    let in-loop = after-letters-on .before in
+    let in-loop = c .before .before .before .before .before .before in
     let at-loop = in-loop .before in
     let s = at-loop .before .before .before in
     let l = at-loop .loop in
     let h = in-loop .loop-test .taken in
-    let n = after-letters-on .letters-on .ensures in
+    let n = c .before .before .before .before .before .letters-on .ensures in
     let on = letters-turn (s .args .ws .now) (s .args .lines) (l .i) h in
     let sum = l .inv .1 in
     let few = s .pre .2 .few in
     omega arith
 
 add-i : tie.Need-add-i Inv-loop μ-loop
-add-i c =
-    let in-loop = c .before .before .before .before .before .before .before .before in
-    let start = in-loop .before .before .before .before in
-    let few = start .pre .4 in let h = in-loop .loop-test .taken in omega arith
+add-i c = let few = c .before .before .before .before .before .before .before .before .before .before .pre .4 in let h = c .before .before .before .before .before .before .loop-test .taken in omega arith
 
 loop-less : tie.Need-loop-less Inv-loop μ-loop
-loop-less c =
-    let in-loop = c .before .before .before .before .before .before .before .before in
-    let h = in-loop .loop-test .taken in omega arith
+loop-less c = let h = c .before .before .before .before .before .before .loop-test .taken in omega arith
 
 loop-again : tie.Need-loop-again Inv-loop μ-loop
 loop-again c =
-    let after-draw-line = c .before .before in
-    let after-baseline = after-draw-line .before .before in
-    let after-line-start = after-baseline .before in
-    let after-measure-line = after-line-start .before in
-    let after-letters-on = after-measure-line .before in
-    let in-loop = after-letters-on .before in
+    let in-loop = c .before .before .before .before .before .before in
     let at-loop = in-loop .before in
     let s = at-loop .before .before .before in
     let l = at-loop .loop in
     let h = in-loop .loop-test .taken in
-    let n = after-letters-on .letters-on .ensures in
-    let w = after-measure-line .measure-line .ensures .0 in
-    let x = after-line-start .line-start .ensures .0 in
-    let y = after-baseline .baseline .ensures .0 in
-    let d = after-draw-line .draw-line in
+    let n = c .before .before .before .before .before .letters-on .ensures in
+    let y = c .before .before .before .before .baseline .ensures .0 in
+    let d = c .before .before .place-line in
     let on = letters-turn (s .args .ws .now) (s .args .lines) (l .i) h in
     let sum = l .inv .1 in
     let fits : Lent (length (l .part)) (s .args .rows) = subst (λ (n : ℕ). Lent n (s .args .rows)) (sym (l .inv .2)) (s .pre .0) in (
@@ -131,7 +96,7 @@ loop-again c =
       d .kept .0 ∙ l .inv .2,
       rw (n)
           (turn _ _ _ _ _ _ (lines-turn (s .args .s) (s .args .ws .now) (s .args .lines) (l .first) (l .i) h) fits
-          (rw (n, x, w, y) at (d .ensures)) (l .inv .3)),
+          (rw (n, y) at (d .ensures)) (l .inv .3)),
     )
 
 same-length : tie.Need-same-length Inv-loop μ-loop
@@ -151,12 +116,10 @@ draw-each-line-spec =
     μ-loop
     loop-holds
     letters-on-requires
-    measure-line-requires
-    line-start-requires
     sub-baseline
     sub-baseline-2
     baseline-requires
-    draw-line-requires
+    place-line-requires
     add-first
     add-i
     loop-less

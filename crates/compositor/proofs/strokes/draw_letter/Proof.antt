@@ -5,11 +5,29 @@ use Rattle.font.specs.declared.Pen.{Pen}
 use Rattle.tape.specs.Stored.{letterAt}
 use Rattle.compositor.specs.Strokes.{glyphStrokes}
 use Rattle.compositor.specs.Painting.{Lent}
-use Rattle.compositor.proofs.Painting.{then, same}
+use Rattle.compositor.proofs.Painting.{missed, then, same}
 use Rattle.compositor.proofs.Reading.{glyph-is, offsets-are, letter-strokes}
+use Rattle.compositor.proofs.Total.{letter-length}
 use borrow.Author.Needs.{needs}
 use Rattle.compositor.proofs.strokes.draw_letter.Statement.{statement}
 use Rattle.compositor.proofs.strokes.draw_letter.Tie as tie
+
+letter-strokes-requires : tie.Need-letter-strokes-requires
+letter-strokes-requires c κs = search needs
+
+misses-requires : tie.Need-misses-requires
+misses-requires c κs = search needs
+
+past-requires : tie.Need-past-requires
+past-requires c κs = search needs
+
+returns : tie.Need-returns
+returns c =
+    let a = c .before .before .before .before .before .before .args in
+    let l = letterAt (a .ws .now) (a .number) in
+    rw (c .past .ensures)
+    (missed (a .rows) _ _ _ (c .before .before .before .letter-strokes .ensures .0 ∙ sym (letter-length (a .s) l (a .x) (a .y)))
+    (sym (c .before .before .misses .ensures) ∙ c .before .if1 .taken))
 
 code-requires : tie.Need-code-requires
 code-requires c κs = search needs
@@ -34,13 +52,13 @@ outline-requires c κs = search needs
 
 draw-outline-requires : tie.Need-draw-outline-requires
 draw-outline-requires c κs =
-    let s = c .before .before .before .before .before .before .before .before .before .before .before .before .before in
+    let s = c .before .before .before .before .before .before .before .before .before .before .before .before .before .before .before .before in
     (s .pre .0, s .pre .3, c .outline .ensures .1)
 
 draw-stroke-requires : tie.Need-draw-stroke-requires
 draw-stroke-requires c κs =
     let after-draw-outline = c .before .before .before .before .before in
-    let s = after-draw-outline .before .before .before .before .before .before .before .before .before .before .before .before .before .before in
+    let s = c .before .before .before .before .before .before .before .before .before .before .before .before .before .before .before .before .before .before .before .before .before .before in
     let near = s .pre .3 in
     let left = near .x-least in
     let right = near .x-most in
@@ -52,9 +70,9 @@ draw-stroke-requires c κs =
 same-length : tie.Need-same-length
 same-length c = search needs
 
-returns : tie.Need-returns
+returns-2 : tie.Need-returns-2
 unfolding glyphStrokes
-returns c =
+returns-2 c =
     let after-draw-stroke = c .before .before in
     let after-draw-outline = after-draw-stroke .before .before .before .before .before .before in
     let after-outline = after-draw-outline .before in
@@ -64,7 +82,7 @@ returns c =
     let after-glyph-of = after-offsets-of .before in
     let after-style = after-glyph-of .before in
     let after-code = after-style .before in
-    let s = after-code .before .before .before in
+    let s = after-code .before .before .before .before .before .before in
     let code = after-code .code in
     let style = after-style .style in
     let glyph = after-glyph-of .glyph-of in
@@ -87,6 +105,10 @@ pub draw-letter-spec : {M : Type 1} → statement M
 draw-letter-spec =
     tie.close
     (tie.spec
+    letter-strokes-requires
+    misses-requires
+    past-requires
+    returns
     code-requires
     style-requires
     glyph-of-requires
@@ -97,4 +119,4 @@ draw-letter-spec =
     draw-outline-requires
     draw-stroke-requires
     same-length
-    returns)
+    returns-2)

@@ -1,41 +1,42 @@
-use native.Mathlib.Omega.{arith}
-use Rattle.compositor.proofs.Painting.{passed, over, drawn}
+use mathlib.Core.Path.{_∙_, refl, sym}
+use Rattle.compositor.proofs.Painting.{missed, drawn}
 use borrow.Author.Needs.{needs}
 use Rattle.compositor.proofs.strokes.draw_stroke.Statement.{statement}
 use Rattle.compositor.proofs.strokes.draw_stroke.Tie as tie
 
-next-requires : tie.Need-next-requires
-next-requires c κs = search needs
+misses-requires : tie.Need-misses-requires
+misses-requires c κs = search needs
+
+past-requires : tie.Need-past-requires
+past-requires c κs = search needs
 
 returns : tie.Need-returns
-returns c = rw (c .next .ensures) (passed _ _ _ _ (c .before .if1 .taken))
-
-returns-2 : tie.Need-returns-2
-returns-2 c = let h = c .before .before .if1 .left in over _ _ _ _ (omega arith) (c .if2 .taken)
+returns c = rw (c .past .ensures) (missed _ _ _ _ refl (sym (c .before .before .misses .ensures) ∙ c .before .if1 .taken))
 
 draw-glyph-sheared-requires : tie.Need-draw-glyph-sheared-requires
 draw-glyph-sheared-requires c κs = search needs
 
-next-requires-2 : tie.Need-next-requires-2
-next-requires-2 c κs = search needs
+past-requires-2 : tie.Need-past-requires-2
+past-requires-2 c κs = search needs
 
 same-length : tie.Need-same-length
 same-length c = search needs
 
-returns-3 : tie.Need-returns-3
-returns-3 c =
+returns-2 : tie.Need-returns-2
+returns-2 c =
     let after-draw-glyph-sheared = c .before .before .before in
-    let branch1 = after-draw-glyph-sheared .before .before .before .before in
-    let h = branch1 .if1 .left in rw (c .next2 .ensures, after-draw-glyph-sheared .draw-glyph-sheared .ensures) (drawn _ _ _ _ (omega arith) (omega arith))
+    let else1 = after-draw-glyph-sheared .before .before in
+    rw (c .past2 .ensures, after-draw-glyph-sheared .draw-glyph-sheared .ensures)
+    (drawn _ _ _ _ (sym (else1 .before .misses .ensures) ∙ else1 .if1 .left))
 
 pub draw-stroke-spec : {M : Type 1} → statement M
 draw-stroke-spec =
     tie.close
     (tie.spec
-    next-requires
+    misses-requires
+    past-requires
     returns
-    returns-2
     draw-glyph-sheared-requires
-    next-requires-2
+    past-requires-2
     same-length
-    returns-3)
+    returns-2)

@@ -1,0 +1,141 @@
+-- Stripes: where they lie, and what a sound record says of its counters.
+use mathlib.Core.Path.{_≡_, _∙_, refl, sym, ap, subst}
+use mathlib.Core.Bool.{Bool, true, false, cond, _||_, true≢false}
+use mathlib.Core.List.{List, [], _∷_, _++_}
+use Prim.Native.Nat.{ℕ, zero, suc, _+_, _-_, _*_, _/_, _≤_, _<_, min}
+use native.Mathlib.Nat.{add-zero, mul-le-mul-right, add-mul, div-mul-le-self, one-mul, div-eq-of-lt-le, div-lt-iff-lt-mul, le-div-iff-mul-le, lt-of-mul-lt-mul-right, lt-of-lt-of-le}
+use native.Mathlib.Numerals.{add-one}
+use native.Mathlib.Omega.{arith}
+use borrow.Author.Tests.{eq-eqb, ne-eqb, eqb-false, lt-ltb, le-ltb, ltb-false}
+use lib.Dec.{eqb, ltb}
+use lib.ListN.{length, getD, take, drop, length-drop, drop-of-length-le}
+use lib.Seq.{drop-cons}
+use Rattle.font.specs.Stroke.{eachRow}
+use Rattle.font.proofs.Rows.{rows-skip, rows-front, rows-part}
+use Rattle.compositor.specs.declared.Settings.{Settings}
+use Rattle.compositor.specs.Settings.{rowBytes, pictureBytes}
+use Rattle.compositor.specs.Strokes.{Stroke}
+use Rattle.compositor.specs.Picture.{strokesOn}
+use Rattle.compositor.specs.Stripes.{mostStripes, firstRow, stripeOf, hasStripe, stripesUnfit, countersUnsound}
+use Rattle.compositor.specs.Work.{onStripe}
+use Rattle.compositor.specs.Painting.{painted}
+
+or-none : (a b : Bool) → (a || b) ≡ false → (a ≡ false) × (b ≡ false)
+or-none true b e = absurd (true≢false e)
+or-none false b e = (refl, e)
+
+-- ---- stripes that are not refused
+
+module _ (s : Settings) (h : ℕ) (fit : stripesUnfit s h ≡ false) where
+  pub some-rows : 0 < h
+  some-rows = let no = eqb-false h 0 (or-none (eqb h 0) (hasStripe s h mostStripes) fit .0) in omega (arith, no)
+
+  -- of at most 64 stripes each has a number below 64
+  pub stripe-low : (k : ℕ) → firstRow h k < s .height → k < mostStripes
+  stripe-low k p =
+      let few = ltb-false (firstRow h mostStripes) (s .height) (or-none (eqb h 0) (hasStripe s h mostStripes) fit .1) in
+      lt-of-mul-lt-mul-right h {m = k} {n = mostStripes} (lt-of-lt-of-le p few)
+
+-- the stripe of a row is there
+pub stripe-there : (s : Settings) (h y : ℕ) → y < s .height → hasStripe s h (stripeOf h y) ≡ true
+stripe-there s h y l = lt-ltb (stripeOf h y * h) (s .height) (omega (arith, div-mul-le-self y h))
+
+-- ---- counters
+
+module _ (s : Settings) (h total : ℕ) where
+  -- the next counter, and those after it
+  pub counters-turn : (k : ℕ) (cs : List ℕ) → k < length cs
+      → countersUnsound s h total k (drop k cs)
+      ≡ (ltb (cond (hasStripe s h k) total 0) (getD cs k 0) || countersUnsound s h total (k + 1) (drop (k + 1) cs))
+  unfolding countersUnsound
+  counters-turn k cs l = rw (add-one k, drop-cons cs k 0 l)
+
+  pub counters-end : (k : ℕ) (cs : List ℕ) → length cs ≤ k → countersUnsound s h total k (drop k cs) ≡ false
+  unfolding countersUnsound
+  counters-end k cs l = rw (drop-of-length-le cs {i = k} l)
+
+  -- they are sound where each is small enough
+  pub all-sound : (k : ℕ) (cs : List ℕ) → ((j : ℕ) → getD cs j 0 ≤ cond (hasStripe s h (k + j)) total 0) → countersUnsound s h total k cs ≡ false
+  unfolding countersUnsound
+  all-sound k [] small = refl
+  all-sound k (c ∷ cs) small =
+      let first = rw add-zero at (small 0) in
+      let next : (j : ℕ) → k + suc j ≡ suc k + j = λ j. omega arith in
+      rw (le-ltb (cond (hasStripe s h k) total 0) c first)
+      (all-sound (suc k) cs (λ j. subst (λ (i : ℕ). getD cs j 0 ≤ cond (hasStripe s h i) total 0) (next j) (small (suc j))))
+
+  -- a counter of a sound record
+  counter-sound : (j : ℕ) (cs : List ℕ) (i : ℕ) → countersUnsound s h total j cs ≡ false → i < length cs
+      → ltb (cond (hasStripe s h (j + i)) total 0) (getD cs i 0) ≡ false
+  unfolding countersUnsound
+  counter-sound j [] i e l = absurd (omega arith)
+  counter-sound j (c ∷ cs) zero e l =
+      let at : j + 0 ≡ j = omega arith in
+      rw at (or-none (ltb (cond (hasStripe s h j) total 0) c) (countersUnsound s h total (suc j) cs) e .0)
+  counter-sound j (c ∷ cs) (suc i) e l =
+      let at : j + suc i ≡ suc j + i = omega arith in
+      rw at
+      (counter-sound (suc j) cs i (or-none (ltb (cond (hasStripe s h j) total 0) c) (countersUnsound s h total (suc j) cs) e .1) (omega arith))
+
+  pub counter-small : (cs : List ℕ) (k : ℕ) → countersUnsound s h total 0 cs ≡ false → k < length cs → hasStripe s h k ≡ true → getD cs k 0 ≤ total
+  counter-small cs k e l there =
+      let at : 0 + k ≡ k = omega arith in
+      let sound : ltb (cond (hasStripe s h k) total 0) (getD cs k 0) ≡ false = rw at at (counter-sound 0 cs k e l) in
+      ltb-false total (getD cs k 0) (rw there at sound)
+
+-- ---- the rows of a stripe
+
+module _ (s : Settings) (h k : ℕ) (pos : 0 < h) (there : firstRow h k < s .height) where
+  abbrev pub rowCount : ℕ
+  rowCount = min h (s .height - firstRow h k)
+
+  next : (k + 1) * h ≡ k * h + h
+  next = add-mul k 1 h ∙ ap (λ (x : ℕ). k * h + x) (one-mul h)
+
+  within : (y : ℕ) → firstRow h k ≤ y → y < firstRow h k + rowCount → stripeOf h y ≡ k
+  within y l u = div-eq-of-lt-le h l (let v : y < (k + 1) * h = omega (arith, next) in v)
+
+  above : (y : ℕ) → y < firstRow h k → stripeOf h y ≡ k → ⊥
+  above y l e = let v : y / h < k = div-lt-iff-lt-mul pos .1 l in omega arith
+
+  under : (y : ℕ) → firstRow h k + rowCount ≤ y → y < s .height → stripeOf h y ≡ k → ⊥
+  under y l u e = let v : k + 1 ≤ y / h = le-div-iff-mul-le pos .1 (omega (arith, next)) in omega arith
+
+  -- it ends within the picture
+  pub stripe-fits : firstRow h k * rowBytes s + rowCount * rowBytes s ≤ pictureBytes s
+  stripe-fits =
+      let le : firstRow h k + rowCount ≤ s .height = omega arith in
+      let sum = add-mul (firstRow h k) rowCount (rowBytes s) in
+      let most = mul-le-mul-right {m = firstRow h k + rowCount} {n = s .height} (rowBytes s) le in
+      omega arith
+
+  -- strokes on the stripe are strokes on its rows, whatever stands behind them
+  rows-are : (ts : List Stroke) (bytes : List ℕ)
+      → onStripe s h k ts bytes
+      ≡ take (firstRow h k * rowBytes s) bytes ++ eachRow (strokesOn ts) (rowBytes s) rowCount (firstRow h k) (drop (firstRow h k * rowBytes s) bytes)
+  rows-are ts bytes =
+      let first = firstRow h k in
+      let size = rowBytes s in
+      let change : ℕ → List ℕ → List ℕ = λ y row. cond (eqb (stripeOf h y) k) (strokesOn ts y row) row in
+      let rest : ℕ = s .height - first - rowCount in
+      let all : s .height ≡ first + (rowCount + rest) = omega arith in
+      let none : 0 + first ≡ first = omega arith in
+      ap (λ (n : ℕ). eachRow change size n 0 bytes) all
+      ∙ rows-skip change size first (rowCount + rest) 0 bytes (λ j r l. rw (ne-eqb (stripeOf h (0 + j)) k (above (0 + j) (omega arith))))
+      ∙ ap (λ (y : ℕ). take (first * size) bytes ++ eachRow change size (rowCount + rest) y (drop (first * size) bytes)) none
+      ∙ ap (λ (l : List ℕ). take (first * size) bytes ++ l)
+      (rows-front change (strokesOn ts) size rowCount rest first (drop (first * size) bytes)
+      (λ j r l. rw (eq-eqb (stripeOf h (first + j)) k (within (first + j) (omega arith) (omega arith))))
+      (λ j r l u. rw (ne-eqb (stripeOf h (first + j)) k (under (first + j) (omega arith) (omega arith)))))
+
+  -- the rows were lent as a part of n bytes, which comes back painted
+  pub stripe-is : (ts : List Stroke) (bytes part : List ℕ) (count n : ℕ) → pictureBytes s ≤ length bytes → count ≡ rowCount → n ≡ count * rowBytes s
+      → part
+      ≡ painted (record { width = s .width; count = count; first = firstRow h k }) ts (take n (drop (firstRow h k * rowBytes s) bytes))
+      → take (firstRow h k * rowBytes s) bytes ++ (part ++ drop n (drop (firstRow h k * rowBytes s) bytes)) ≡ onStripe s h k ts bytes
+  stripe-is ts bytes part count n fits c e p =
+      let end = stripe-fits in
+      rw (p, e, c)
+      (ap (λ (l : List ℕ). take (firstRow h k * rowBytes s) bytes ++ l)
+      (rows-part (strokesOn ts) (rowBytes s) rowCount (firstRow h k) (drop (firstRow h k * rowBytes s) bytes) (rw length-drop (omega arith)))
+      ∙ sym (rows-are ts bytes))

@@ -1,0 +1,53 @@
+use mathlib.Core.Path.{_∙_}
+use native.Mathlib.Omega.{arith}
+use Rattle.compositor.specs.Read.{strokesAt}
+use Rattle.compositor.proofs.Cleared.{picture-drawn}
+use borrow.Author.Needs.{needs}
+use Rattle.compositor.proofs.draw_cue.Statement.{statement}
+use Rattle.compositor.proofs.draw_cue.Tie as tie
+
+picture-bytes-requires : tie.Need-picture-bytes-requires
+picture-bytes-requires c κs = c .before .before .before .pre .0
+
+clear-requires : tie.Need-clear-requires
+clear-requires c κs = rw (c .picture-bytes .ensures) (c .before .before .before .before .pre .1)
+
+cast-t11 : tie.Need-cast-t11
+cast-t11 c = search needs
+
+cast-t12 : tie.Need-cast-t12
+cast-t12 c = search needs
+
+draw-lines-requires : tie.Need-draw-lines-requires
+draw-lines-requires c κs =
+    let s = c .before .before .before .before .before .before .before .before .before .before in
+    let range = s .pre .0 in
+    let fits = s .pre .1 in
+    let lined = s .pre .2 in
+    let long = c .before .before .before .before .before .clear .kept .0 in (
+      record { narrow = range .narrow; short = range .low; high = omega arith; long = omega arith },
+      lined .readable,
+      range,
+      lined .few-lines,
+    )
+
+same-length : tie.Need-same-length
+same-length c = search needs
+
+returns : tie.Need-returns
+returns c =
+    let a = c .before .before .before .before .before .before .before .before .before .before .before .before .before .args in
+    let cleared = rw (c .before .before .before .before .before .before .before .before .before .picture-bytes .ensures) at (c .before .before .before .before .before .before .before .before .clear .ensures) in
+    c .before .before .draw-lines .ensures ∙ rw cleared (picture-drawn (a .s) (strokesAt (a .s) (a .ws .now) 0 0 (a .lines)) (a .total) (a .picture .now))
+
+pub draw-cue-spec : {M : Type 1} → statement M
+draw-cue-spec =
+    tie.close
+    (tie.spec
+    picture-bytes-requires
+    clear-requires
+    cast-t11
+    cast-t12
+    draw-lines-requires
+    same-length
+    returns)

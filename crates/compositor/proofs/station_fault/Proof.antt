@@ -1,0 +1,68 @@
+use mathlib.Core.Path.{_≡_, _∙_, sym}
+use mathlib.Core.Bool.{false}
+use Prim.Native.Nat.{_≤_}
+use lib.ListN.{length}
+use Rattle.compositor.specs.Settings.{outOfRange, pictureBytes}
+use Rattle.compositor.proofs.Ranges.{in-range}
+use Rattle.compositor.proofs.Checks.{out-of-range, short-picture, long-tape, short-workspace, all-fine}
+use borrow.Author.Needs.{needs}
+use Rattle.compositor.proofs.station_fault.Statement.{statement}
+use Rattle.compositor.proofs.station_fault.Tie as tie
+
+-- the settings are in range
+range : (c : tie.Else1) → outOfRange (c .before .before .before .args .s) ≡ false
+range c = sym (c .before .is-out-of-range .ensures) ∙ c .if1 .left
+
+-- the picture has room
+fits : (c : tie.Else2) → let a = c .before .before .before .before .before .args in pictureBytes (a .s) ≤ a .size
+fits c = rw (c .before .picture-bytes .ensures) at (c .if2 .left)
+
+is-out-of-range-requires : tie.Need-is-out-of-range-requires
+is-out-of-range-requires c κs = search needs
+
+returns : tie.Need-returns
+returns c =
+    let a = c .before .before .before .args in
+    out-of-range (a .s) (a .tape .now) (a .room) (a .size) (sym (c .before .is-out-of-range .ensures) ∙ c .if1 .taken)
+
+picture-bytes-requires : tie.Need-picture-bytes-requires
+picture-bytes-requires c κs = in-range _ (range c)
+
+returns-2 : tie.Need-returns-2
+returns-2 c =
+    let else1 = c .before .before in
+    let a = else1 .before .before .before .args in
+    short-picture (a .s) (a .tape .now) (a .room) (a .size) (range else1) (rw (c .before .picture-bytes .ensures) at (c .if2 .taken))
+
+returns-3 : tie.Need-returns-3
+returns-3 c =
+    let else2 = c .before in
+    let else1 = else2 .before .before in
+    let a = else1 .before .before .before .args in
+    long-tape (a .s) (a .tape .now) (a .room) (a .size) (range else1) (fits else2) (c .if3 .taken)
+
+returns-4 : tie.Need-returns-4
+returns-4 c =
+    let else2 = c .before .before in
+    let else1 = else2 .before .before in
+    let a = else1 .before .before .before .args in
+    short-workspace (a .s) (a .tape .now) (a .room) (a .size) (range else1) (fits else2) (c .before .if3 .left) (c .if4 .taken)
+
+returns-5 : tie.Need-returns-5
+returns-5 c =
+    let else2 = c .before .before in
+    let else1 = else2 .before .before in
+    let a = else1 .before .before .before .args in
+    all-fine (a .s) (a .tape .now) (a .room) (a .size) (range else1) (fits else2) (c .before .if3 .left) (c .if4 .left)
+
+pub station-fault-spec : {M : Type 1} → statement M
+station-fault-spec =
+    tie.close
+    (tie.spec
+    is-out-of-range-requires
+    returns
+    picture-bytes-requires
+    returns-2
+    returns-3
+    returns-4
+    returns-5)

@@ -1,0 +1,108 @@
+use mathlib.Core.Path.{_≡_, _∙_, sym, ap, ap₂}
+use Prim.Native.Nat.{ℕ, _*_}
+use native.Mathlib.Omega.{arith}
+use lib.ListN.{length}
+use Rattle.compositor.specs.Layout.{lineWidth, lineStart}
+use Rattle.compositor.specs.Outline.{outlineOf}
+use Rattle.compositor.specs.Strokes.{lineStrokes}
+use Rattle.compositor.specs.Read.{lettersAt}
+use Rattle.wrap.specs.Laid.{columnsOn}
+use Rattle.compositor.proofs.Off.{line-around, missing}
+use Rattle.compositor.proofs.Painting.{missed}
+use Rattle.compositor.proofs.Reading.{letters-length}
+use Rattle.compositor.proofs.Total.{line-length}
+use Rattle.compositor.proofs.Whole.{total-small}
+use borrow.Author.Needs.{needs}
+use Rattle.compositor.proofs.strokes.place_line.Statement.{statement}
+use Rattle.compositor.proofs.strokes.place_line.Tie as tie
+
+-- the line's strokes are as many as its letters have
+strokes-are : (c : tie.After-letter-strokes) →
+    let a = c .before .before .before .args in
+    a .letters * c .letter-strokes .result
+    ≡ length (lineStrokes (a .s) (lineStart (a .s) (lineWidth (columnsOn (a .ws .now) (a .line)))) (a .y) (lettersAt (a .ws .now) (a .first) (a .letters)))
+strokes-are c =
+    let a = c .before .before .before .args in
+    let ls = lettersAt (a .ws .now) (a .first) (a .letters) in
+    ap₂ (λ (n m : ℕ). n * m) (sym (letters-length (a .ws .now) (a .first) (a .letters))) (c .letter-strokes .ensures .0)
+    ∙ sym (line-length (a .s) _ (a .y) ls)
+
+letter-strokes-requires : tie.Need-letter-strokes-requires
+letter-strokes-requires c κs = search needs
+
+mul-strokes : tie.Need-mul-strokes
+mul-strokes c =
+    let s = c .before .before .before in
+    let n = s .args .letters in
+    let few = s .pre .2 .few in
+    let each = ap (λ (m : ℕ). n * m) (c .letter-strokes .ensures .0) in
+    let small = total-small n (outlineOf (s .args .s)) (omega arith) (omega arith) in
+    omega arith
+
+outline-requires : tie.Need-outline-requires
+outline-requires c κs = search needs
+
+is-off-requires : tie.Need-is-off-requires
+is-off-requires c κs = search needs
+
+past-requires : tie.Need-past-requires
+past-requires c κs = search needs
+
+returns : tie.Need-returns
+returns c =
+    let s = c .before .before .before .before .before .before .before in
+    let a = s .args in
+    let outline = c .before .before .before .outline .ensures in
+    let off = rw (outline .0) at (sym (c .before .before .is-off .ensures) ∙ c .before .if1 .taken) in
+    rw (c .past .ensures)
+    (missing (a .rows) (a .y) (outlineOf (a .s)) (s .pre .5) (omega arith) off _ _ _ (strokes-are (c .before .before .before .before)) (line-around (a .s) _ (a .y) _))
+
+misses-requires : tie.Need-misses-requires
+misses-requires c κs = search needs
+
+past-requires-2 : tie.Need-past-requires-2
+past-requires-2 c κs = search needs
+
+returns-2 : tie.Need-returns-2
+returns-2 c =
+    let a = c .before .before .before .before .before .before .before .before .before .args in
+    rw (c .past2 .ensures) (missed (a .rows) _ _ _ (strokes-are (c .before .before .before .before .before .before)) (sym (c .before .before .misses .ensures) ∙ c .before .if2 .taken))
+
+measure-line-requires : tie.Need-measure-line-requires
+measure-line-requires c κs = search needs
+
+line-start-requires : tie.Need-line-start-requires
+line-start-requires c κs = search needs
+
+draw-line-requires : tie.Need-draw-line-requires
+draw-line-requires c κs =
+    let s = c .before .before .before .before .before .before .before .before .before .before .before in
+    let x = c .before .line-start .ensures in
+    let left = x .1 in
+    let right = x .2 in
+    (s .pre .0, s .pre .1, s .pre .2, record { x-least = omega arith; x-most = omega arith; base-least = s .pre .5; base-most = s .pre .6 }, right)
+
+same-length : tie.Need-same-length
+same-length c = search needs
+
+returns-3 : tie.Need-returns-3
+returns-3 c = rw (c .before .before .before .before .line-start .ensures .0, c .before .before .before .before .before .measure-line .ensures .0) at (c .before .before .draw-line .ensures)
+
+pub place-line-spec : {M : Type 1} → statement M
+place-line-spec =
+    tie.close
+    (tie.spec
+    letter-strokes-requires
+    mul-strokes
+    outline-requires
+    is-off-requires
+    past-requires
+    returns
+    misses-requires
+    past-requires-2
+    returns-2
+    measure-line-requires
+    line-start-requires
+    draw-line-requires
+    same-length
+    returns-3)

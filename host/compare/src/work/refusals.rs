@@ -1,0 +1,164 @@
+//! Calls of Open and Work with several things wrong at once: which of them is said, and that nothing
+//! is done.
+
+use crate::count::Count;
+use crate::draw::cases::translucent;
+use crate::draw::frame::Frame;
+use crate::draw::refusals::{BREAKS, Break};
+use crate::refusal::Refusal;
+use crate::tape::ROOM;
+use crate::tape::limits::stopped;
+use crate::work::call::{Ask, Call};
+use crate::work::due;
+use crate::work::record::Record;
+use reference::Original;
+
+/// Stripe heights for a picture of 130 rows, and how many stripes they make, where they may.
+const STRIPE_HEIGHTS: [(u32, Option<u32>); 4] =
+    [(0, None), (2, None), (3, Some(44)), (u32::MAX, Some(1))];
+/// The tape that is not stopped: a letter, and its strokes with outline 1.
+const GOOD: [u8; 2] = [0x02, 0x41];
+const STROKES: u32 = 9;
+
+/// What may be wrong with a call besides its stripes and its record.
+struct Base {
+    tape: Vec<u8>,
+    fault: Option<Refusal>,
+    broken: Option<Break>,
+    short: bool,
+    room: usize,
+}
+
+/// Every choice of things that are wrong, with each tape that is stopped and one that is not.
+pub fn each(original: &Original) -> Count {
+    let mut count = Count::new("refusals of Open and Work");
+    for base in bases() {
+        for (stripe_height, stripes) in STRIPE_HEIGHTS {
+            let record = Record::new(7);
+            let due = base.first(stripes.is_none(), None);
+            base.check(
+                original,
+                &mut count,
+                Ask::Open { stripe_height },
+                record,
+                due,
+            );
+            base.works(original, &mut count, stripe_height, stripes);
+        }
+    }
+    count
+}
+
+fn bases() -> Vec<Base> {
+    let mut tapes = vec![(GOOD.to_vec(), None)];
+    for (tape, number, place) in stopped() {
+        tapes.push((tape, Some(Refusal { number, place })));
+    }
+    let mut bases = Vec::new();
+    for (tape, fault) in tapes {
+        for broken in [None, Some(BREAKS[4]), Some(BREAKS[8]), Some(BREAKS[10])] {
+            for (short, room) in [(false, ROOM), (false, ROOM - 1), (true, ROOM), (true, 0)] {
+                bases.push(Base {
+                    tape: tape.clone(),
+                    fault,
+                    broken,
+                    short,
+                    room,
+                });
+            }
+        }
+    }
+    bases
+}
+
+impl Base {
+    fn works(
+        &self,
+        original: &Original,
+        count: &mut Count,
+        stripe_height: u32,
+        stripes: Option<u32>,
+    ) {
+        // Where there are too many, as many as elsewhere are spoken of.
+        let there = stripes.unwrap_or(44);
+        for (record, unsound) in records(stripe_height, there) {
+            for stripe in [0, there - 1, there, 64, u32::MAX] {
+                let last = [(14, unsound), (12, stripe >= there)];
+                let due = self.first(stripes.is_none(), wrong(&last));
+                let ask = Ask::Work { stripe, budget: 4 };
+                self.check(original, count, ask, record, due);
+            }
+        }
+    }
+
+    /// The refusal that goes before the others, where the stripes are wrong or not, and where this
+    /// one, if any, goes behind the tape's.
+    fn first(&self, stripes: bool, last: Option<Refusal>) -> Option<Refusal> {
+        let long = self.fault.is_some_and(|fault| fault.number == 10);
+        let stations = [
+            (8, self.broken.is_some()),
+            (9, self.short),
+            (10, long),
+            (11, self.room < ROOM),
+            (13, stripes),
+        ];
+        wrong(&stations).or(self.fault).or(last)
+    }
+
+    fn check(
+        &self,
+        original: &Original,
+        count: &mut Count,
+        ask: Ask,
+        record: Record,
+        due: Option<Refusal>,
+    ) {
+        let mut settings = translucent(3, 130);
+        let bytes = vec![0xa5; settings.area() - usize::from(self.short)];
+        if let Some(spoil) = self.broken {
+            spoil(&mut settings);
+        }
+        let call = Call {
+            frame: Frame {
+                settings,
+                tape: self.tape.clone(),
+                room: self.room,
+                bytes,
+            },
+            record,
+            ask,
+        };
+        count.check(match due {
+            Some(refusal) => call.hold(&Err(refusal)),
+            None => call.hold(&due::of_call(original, &call)),
+        });
+    }
+}
+
+/// The first number whose thing is wrong.
+fn wrong(numbers: &[(u32, bool)]) -> Option<Refusal> {
+    let (number, _) = *numbers.iter().find(|(_, wrong)| *wrong)?;
+    Some(Refusal { number, place: 0 })
+}
+
+/// Records of so many stripes, and whether a counter is over the good tape's strokes, or not 0 past
+/// the last stripe.
+fn records(stripe_height: u32, stripes: u32) -> [(Record, bool); 7] {
+    let last = stripes - 1;
+    let with = |counters: &[(u32, u32)]| {
+        let mut record = Record::new(stripe_height);
+        for &(stripe, counter) in counters {
+            record.counters[stripe as usize] = counter;
+        }
+        record
+    };
+    [
+        (with(&[]), false),
+        (with(&[(0, STROKES), (last, STROKES)]), false),
+        (with(&[(0, STROKES + 1)]), true),
+        (with(&[(last, u32::MAX)]), true),
+        (with(&[(stripes, 1)]), true),
+        (with(&[(63, STROKES)]), true),
+        (with(&[(0, u32::MAX), (63, u32::MAX)]), true),
+    ]
+}

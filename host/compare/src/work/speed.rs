@@ -1,0 +1,143 @@
+//! How long the proved Open and Work take. The original has neither.
+
+use crate::draw::cases::OPAQUE;
+use crate::draw::scenes::{Scene, scenes};
+use crate::draw::settings::Settings;
+use crate::proved::{self, Buffers};
+use crate::tape::segments::MOST_LETTERS;
+use crate::tape::{ROOM, written};
+use crate::timing::{in_turn, micros};
+use crate::work::record::Record;
+use crate::wrap;
+use std::fmt::Write;
+use std::hint::black_box;
+
+const ONE: &str = "
+Work of one stroke at 1024 x 640, which 4096 letters fill, with outline 1, in µs: the first stroke,
+the middle one and the last, a call on each stripe in turn, of which this is the mean. Beside it Wrap
+of the same tape at the same limit, which reads and wraps alone, and Draw.
+
+| Letters | Stripes | First | Middle | Last | Wrap | Draw |
+|---|---|---|---|---|---|---|
+";
+
+const WHOLE: &str = "
+Open and then each stripe whole, in µs, and over Draw of the same cue: in one stripe, and in stripes
+of a 4th, a 16th and a 64th of the rows, rounded up.
+
+| Cue | Draw | One | Ratio | 4th | Ratio | 16th | Ratio | 64th | Ratio |
+|---|---|---|---|---|---|---|---|---|---|
+";
+
+const PARTS: [u32; 4] = [1, 4, 16, 64];
+
+/// A cue's tape, and what its calls are buffers.
+struct Desk {
+    settings: Settings,
+    tape: Vec<u8>,
+    workspace: Vec<u8>,
+    picture: Vec<u8>,
+}
+
+/// Two tables: one stroke, and whole cues in stripes.
+pub fn tables() -> String {
+    let mut text = ONE.to_string();
+    for letters in [64, 512, MOST_LETTERS] {
+        for stripe_height in [640, 40] {
+            let mut desk = Desk::new(&Scene::filling(letters));
+            let _ = writeln!(text, "| {letters} | {} |", desk.one_stroke(stripe_height));
+        }
+    }
+    text += WHOLE;
+    for scene in scenes().into_iter().chain([Scene::filling(MOST_LETTERS)]) {
+        let _ = writeln!(text, "| {} | {} |", scene.name, Desk::new(&scene).whole());
+    }
+    text
+}
+
+impl Desk {
+    fn new(scene: &Scene) -> Desk {
+        let settings = scene.settings(OPAQUE);
+        Desk {
+            settings,
+            tape: written::shortest(&scene.segments()),
+            workspace: vec![0; ROOM],
+            picture: vec![0; settings.area()],
+        }
+    }
+
+    fn one_stroke(&mut self, stripe_height: u32) -> String {
+        let mut record = Record::new(stripe_height);
+        let stripes = record.stripes(self.settings.height);
+        let total = self.draw() as u32;
+        let counters = [0, total / 2, total.saturating_sub(1)];
+        let best: [_; 5] = in_turn(|call| match call {
+            0..3 => {
+                record.counters[..stripes].fill(counters[call]);
+                self.each_stripe(&mut record, 1);
+            }
+            3 => self.wrap(),
+            _ => {
+                self.draw();
+            }
+        });
+        let [first, middle, last, wrap, draw] = best.map(micros);
+        let [first, middle, last] = [first, middle, last].map(|time| time / stripes as f64);
+        format!("{stripes} | {first:.2} | {middle:.2} | {last:.2} | {wrap:.2} | {draw:.2}")
+    }
+
+    fn whole(&mut self) -> String {
+        let height = self.settings.height;
+        let best: [_; 5] = in_turn(|call| match call {
+            4 => {
+                self.draw();
+            }
+            _ => {
+                let mut record = Record::new(0);
+                self.open(height.div_ceil(PARTS[call]), &mut record);
+                self.each_stripe(&mut record, u32::MAX);
+            }
+        });
+        let [parts @ .., draw] = best.map(micros);
+        let mut text = format!("{draw:.2}");
+        for part in parts {
+            let _ = write!(text, " | {part:.2} | {:.2}", part / draw);
+        }
+        text
+    }
+
+    /// What a call is told and lent.
+    fn told(&mut self) -> (Settings, Buffers<'_>) {
+        let buffers = Buffers {
+            tape: black_box(&self.tape),
+            workspace: &mut self.workspace,
+            picture: &mut self.picture,
+        };
+        (self.settings, buffers)
+    }
+
+    /// Answers how many strokes there are; no call here is refused.
+    fn draw(&mut self) -> usize {
+        let (settings, buffers) = self.told();
+        black_box(proved::draw(&settings, buffers)).unwrap_or_default()
+    }
+
+    fn wrap(&mut self) {
+        let limit = self.settings.limit() as u32;
+        let (_, buffers) = self.told();
+        let _ = black_box(wrap::proved::wrap(buffers.tape, buffers.workspace, limit));
+    }
+
+    fn open(&mut self, stripe_height: u32, record: &mut Record) {
+        let (settings, buffers) = self.told();
+        let _ = black_box(proved::open(&settings, buffers, stripe_height, record));
+    }
+
+    /// Works with the budget on every stripe of the record.
+    fn each_stripe(&mut self, record: &mut Record, budget: u32) {
+        for stripe in 0..record.stripes(self.settings.height) as u32 {
+            let (settings, buffers) = self.told();
+            let _ = black_box(proved::work(&settings, buffers, record, stripe, budget));
+        }
+    }
+}

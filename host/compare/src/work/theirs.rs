@@ -1,0 +1,61 @@
+//! A cue as the original draws it, stopped and begun anywhere.
+
+use crate::draw::due;
+use crate::draw::settings::Settings;
+use oxideav_core::{Segment, SubtitleCue};
+use reference::Original;
+use std::ops::Range;
+
+pub struct Theirs<'a> {
+    original: &'a Original,
+    pub settings: Settings,
+    cue: SubtitleCue,
+    /// All strokes of the cue.
+    pub total: usize,
+    /// Its picture after so many strokes, the last that was asked for.
+    stopped: Option<(usize, Vec<u8>)>,
+}
+
+impl<'a> Theirs<'a> {
+    pub fn new(original: &'a Original, settings: Settings, segments: Vec<Segment>) -> Theirs<'a> {
+        let total = due::strokes(original, &settings, &segments);
+        let positioning = settings.positioning(false);
+        Theirs {
+            original,
+            settings,
+            cue: SubtitleCue {
+                segments,
+                positioning,
+            },
+            total,
+            stopped: None,
+        }
+    }
+
+    /// The whole picture.
+    pub fn whole(&self) -> Vec<u8> {
+        let mut bytes = vec![0; self.settings.area()];
+        self.original
+            .render_into(self.settings.told(), &self.cue, &mut bytes);
+        bytes
+    }
+
+    /// The picture after its first strokes, so many.
+    pub fn after(&mut self, strokes: usize) -> &[u8] {
+        let kept = self.stopped.take().filter(|(after, _)| *after == strokes);
+        let (_, bytes) = self.stopped.insert(kept.unwrap_or_else(|| {
+            let mut bytes = vec![0; self.settings.area()];
+            let told = self.settings.told();
+            self.original
+                .render_strokes(told, &self.cue, &mut bytes, strokes);
+            (strokes, bytes)
+        }));
+        bytes
+    }
+
+    /// Draws the strokes with these numbers over the bytes, and answers how many there are in all.
+    pub fn draw(&self, bytes: &mut [u8], window: Range<usize>) -> usize {
+        self.original
+            .draw_strokes(self.settings.told(), &self.cue, bytes, window)
+    }
+}
