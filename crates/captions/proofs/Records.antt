@@ -1,11 +1,11 @@
 -- A job record as 65 numbers: loops that copy its counters.
-use mathlib.Core.Path.{_≡_, _∙_, refl, sym, ap}
-use mathlib.Core.List.{List, [], _∷_, _++_, append-nil}
+use mathlib.Core.Path.{_≡_, ap}
+use mathlib.Core.List.{List, [], _∷_, append-nil}
 use Prim.Native.Nat.{ℕ, _+_, _≤_, _<_}
 use native.Mathlib.Numerals.{add-one}
 use native.Mathlib.Omega.{arith}
-use lib.ListN.{length, getD, set, take, drop, length-set, length-drop, drop-of-length-le}
-use lib.Seq.{paste, paste-suc, take-all, getD-drop}
+use lib.ListN.{length, getD, set, drop, length-drop, drop-of-length-le}
+use lib.Seq.{paste, paste-suc, take-all}
 
 -- one more is copied
 pub copied : (d : List ℕ) (at : ℕ) (s : List ℕ) (k i v : ℕ) → at + k < length d → k < length s → i ≡ at + k → v ≡ getD s k 0

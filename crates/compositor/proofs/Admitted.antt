@@ -19,7 +19,7 @@ use Rattle.compositor.specs.Ready.{JobAdmitted}
 use Rattle.compositor.proofs.Ranges.{in-range}
 
 -- a refusal is no acceptance
-pub never : {A : Type 0} {number place : ℕ} {a : A} → refused number place ≡ accepted a → ⊥
+never : {A : Type 0} {number place : ℕ} {a : A} → refused number place ≡ accepted a → ⊥
 never e = let z : _≡_ {A = ℕ} 0 1 = cc in omega arith
 
 -- what is accepted passed the test

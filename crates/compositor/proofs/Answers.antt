@@ -1,5 +1,5 @@
--- For the layers above: what each answer of a call tells.
-use mathlib.Core.Path.{_≡_, refl, sym, _∙_}
+-- For the layers above: what a call comes to is bounded.
+use mathlib.Core.Path.{_≡_, refl}
 use mathlib.Core.Bool.{Bool, true, false, not}
 use mathlib.Core.List.{List, flatten}
 use Prim.Native.Nat.{ℕ, _≤_}
@@ -16,14 +16,12 @@ use Rattle.tape.proofs.Bounds as Tape
 use Rattle.wrap.specs.Lines.{wrapRuns}
 use Rattle.wrap.proofs.Once.{few-letters}
 use Rattle.compositor.specs.declared.Settings.{Settings}
-use Rattle.compositor.specs.declared.Answer.{Answer}
 use Rattle.compositor.specs.declared.job.JobRecord.{JobRecord}
 use Rattle.compositor.specs.Settings.{outOfRange, pictureBytes}
 use Rattle.compositor.specs.Layout.{columnLimit}
 use Rattle.compositor.specs.Outline.{outlineOf}
 use Rattle.compositor.specs.Strokes.{Stroke, drawing}
 use Rattle.compositor.specs.Draw.{tapeStrokes, drawCall}
-use Rattle.compositor.specs.Drawn.{answerOf}
 use Rattle.compositor.specs.Stripes.{hasStripe, stripesUnfit, counterOf, countersUnsound}
 use Rattle.compositor.specs.Work.{openCall, stripeCall, workCall}
 use Rattle.compositor.proofs.Total.{total}
@@ -34,7 +32,7 @@ use Rattle.compositor.proofs.Jobs.{strokes-done}
 abbrev pub mostStrokes : ℕ
 mostStrokes = 69632
 
--- ---- bounds: no more strokes than that, and a number of document 01's with a place as far as a tape may go
+-- no more strokes than that, or a number of document 01's with a place as far as a tape may go
 
 abbrev pub Bounded : Outcome (List Stroke) → Type 0
 Bounded (accepted ts) = length ts ≤ mostStrokes
@@ -89,31 +87,3 @@ module _ (s : Settings) (room size : ℕ) (tape : List ℕ) where
           refuse-bounded (countersUnsound s (job .«stripe_height») (length ts) 0 (job .counters)) 14 _ (lit≤ tt)
           (λ _. refuse-bounded (not (hasStripe s (job .«stripe_height») k)) 12 _ (lit≤ tt) (λ _. omega arith))
       go (refused number place) b = b
-
--- ---- the answers: there are so many strokes, or the refusal's number and place
-
-pub record Accepted (o : Outcome (List Stroke)) (count : ℕ) : Type 0 where
-  pub strokes : List Stroke
-  pub means : o ≡ accepted strokes
-  pub count-is : count ≡ length strokes
-  pub few : count ≤ mostStrokes
-
-pub record Refused (o : Outcome (List Stroke)) (number place : ℕ) : Type 0 where
-  pub means : o ≡ refused number place
-  pub most : number ≤ 14
-  pub near : place ≤ mostBytes
-
-pub strokes-are : (o : Outcome (List Stroke)) → Bounded o → {count : ℕ} → answerOf o ≡ Answer.Strokes count → Accepted o count
-strokes-are (accepted ts) b {count} e =
-    let n : count ≡ length ts = cc in
-    record { strokes = ts; means = refl; count-is = n; few = omega arith }
-strokes-are (refused number place) b e = let z : _≡_ {A = ℕ} 0 1 = cc in absurd (omega arith)
-
-pub refusal-is : (o : Outcome (List Stroke)) → Bounded o → {number place : ℕ} → answerOf o ≡ Answer.Refused number place → Refused o number place
-refusal-is (accepted ts) b e = let z : _≡_ {A = ℕ} 0 1 = cc in absurd (omega arith)
-refusal-is (refused k p) b {number} {place} e =
-    let same : k ≡ number = cc in
-    let there : p ≡ place = cc in
-    let most = b .0 in
-    let near = b .1 in
-    record { means = rw (same, there); most = omega arith; near = omega arith }

@@ -1,6 +1,6 @@
 -- What is checked before a tape is read: the number of each fault, and how a call goes on after it.
 use mathlib.Core.Path.{_≡_, _∙_, refl, sym, subst}
-use mathlib.Core.Bool.{true, false, _||_}
+use mathlib.Core.Bool.{true, false}
 use mathlib.Core.List.{List}
 use Prim.Native.Nat.{ℕ, _≤_, _<_}
 use native.Mathlib.Omega.{arith}
@@ -12,7 +12,7 @@ use Rattle.compositor.specs.declared.Settings.{Settings}
 use Rattle.compositor.specs.declared.Cue.{Cue}
 use Rattle.compositor.specs.Settings.{outOfRange, pictureBytes}
 use Rattle.compositor.specs.Strokes.{Stroke}
-use Rattle.compositor.specs.Draw.{tapeStrokes, refuseSettings}
+use Rattle.compositor.specs.Draw.{refuseSettings}
 use Rattle.compositor.specs.Drawn.{keepsWorkspace}
 use Rattle.compositor.specs.Stripes.{mostStripes, hasStripe, stripesUnfit}
 use Rattle.compositor.specs.Ready.{Admitted, JobAdmitted, Checked, CueRead}
@@ -21,10 +21,10 @@ use Rattle.compositor.proofs.Ranges.{in-range}
 -- ---- what was found, and what it means for a call that begins with these tests
 
 module _ {refuse : Outcome (List Stroke) → Outcome (List Stroke)} {Fine : Type 0} {fault : ℕ} (c : Checked refuse Fine fault) where
-  pub stops : 0 < fault → (o : Outcome (List Stroke)) → refuse o ≡ refused fault 0
+  stops : 0 < fault → (o : Outcome (List Stroke)) → refuse o ≡ refused fault 0
   stops h o = c .refuses o ∙ rw (lt-ltb 0 fault h)
 
-  pub goes-on : fault ≡ 0 → (o : Outcome (List Stroke)) → refuse o ≡ o
+  goes-on : fault ≡ 0 → (o : Outcome (List Stroke)) → refuse o ≡ o
   goes-on e o = c .refuses o ∙ rw e
 
   -- a call that is stopped has refused so much, and left the workspace

@@ -3,7 +3,7 @@
 use mathlib.Core.Path.{_≡_, _∙_, refl, sym, ap, ap₂, subst, subst₂, subst₃}
 use mathlib.Core.Bool.{Bool, true, false, cond, not, true≢false}
 use mathlib.Core.List.{List, [], _∷_}
-use Prim.Native.Nat.{ℕ, zero, suc, _+_, _*_, _≤_, _<_}
+use Prim.Native.Nat.{ℕ, zero, suc, _+_, _≤_, _<_}
 use native.Mathlib.Nat.{zero-add, add-zero}
 use native.Mathlib.Decide.{ℕ-discrete}
 use native.Mathlib.Omega.{arith}
@@ -24,7 +24,7 @@ use Rattle.compositor.specs.Strokes.{Stroke}
 use Rattle.compositor.specs.Picture.{strokesOn, rowAfter, pictureAfter, cleared, rowOf}
 use Rattle.compositor.specs.Draw.{tapeStrokes, drawCall, drawPicture}
 use Rattle.compositor.specs.Drawn.{answerOf}
-use Rattle.compositor.specs.Stripes.{mostStripes, stripeOf, hasStripe, stripesUnfit, counterOf, countersUnsound}
+use Rattle.compositor.specs.Stripes.{mostStripes, stripeOf, hasStripe, counterOf, countersUnsound}
 use Rattle.compositor.specs.Work.{openCall, newRecord, openRecord, openPicture, stripeCall, workCall, workRecord, onStripe, workPicture}
 use Rattle.compositor.specs.History.{Call, History, opened, worked, budgets, count, dueOf, Answered, PartlyDrawn, Demand3}
 use Rattle.compositor.specs.Ready.{JobAdmitted}

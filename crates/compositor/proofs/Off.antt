@@ -1,8 +1,9 @@
--- Strokes that miss the lent rows: a line's strokes stand around its base line, as far as its outline goes.
+-- Strokes that miss the lent rows: a line's strokes stand around its base line, as far as its outline goes, and those of lines around theirs.
 use mathlib.Core.Path.{_≡_, refl, sym, subst}
 use mathlib.Core.Bool.{Bool, true, false, cond, _||_, true≢false}
 use mathlib.Core.List.{List, [], _∷_, _++_, map-append}
 use Prim.Native.Nat.{ℕ, zero, suc, _+_, _-_, _*_, _≤_, _<_}
+use native.Mathlib.Nat.{mul-le-mul-right}
 use native.Mathlib.Omega.{arith}
 use borrow.Author.Tests.{leb-true}
 use lib.Dec.{eqb, leb}
@@ -11,20 +12,23 @@ use Rattle.font.specs.Font.{cellW}
 use Rattle.font.specs.Stroke.{origin}
 use Rattle.font.proofs.Rows.{rows-kept, stroke-above, stroke-below}
 use Rattle.tape.specs.Runs.{Letter}
+use Rattle.wrap.specs.Laid.{lettersOn, columnsOn}
 use Rattle.compositor.specs.declared.Settings.{Settings}
 use Rattle.compositor.specs.declared.strokes.Rows.{Rows}
 use Rattle.compositor.specs.declared.strokes.Window.{Window}
+use Rattle.compositor.specs.Layout.{lineHeight, baseLine, lineWidth, lineStart}
 use Rattle.compositor.specs.Outline.{onRing, outlineOf, ringRow, ringRows, ring}
 use Rattle.compositor.specs.Strokes.{Stroke, stroke, outlineStrokes, glyphStrokes, letterStrokes, lineStrokes}
 use Rattle.compositor.specs.Picture.{strokeOn, strokesOn}
+use Rattle.compositor.specs.Read.{lettersAt, strokesAt}
 use Rattle.compositor.specs.Painting.{cut, after, offRows, Painted}
 
--- ---- strokes whose base lines are at most o rows from place y
+-- ---- strokes whose base lines are at most o rows above place `high`, and below place `low`
 
-module _ (y o : ℕ) where
+module _ (high low o : ℕ) where
   abbrev pub Around : List Stroke → Type 0
   Around [] = Unit
-  Around (t ∷ ts) = (y ≤ t .base + o) × (t .base ≤ y + o) × Around ts
+  Around (t ∷ ts) = (high ≤ t .base + o) × (t .base ≤ low + o) × Around ts
 
   around-append : (a b : List Stroke) → Around a → Around b → Around (a ++ b)
   around-append [] b p q = q
@@ -40,77 +44,102 @@ module _ (y o : ℕ) where
   around-drop (suc n) [] p = tt
   around-drop (suc n) (t ∷ ts) p = around-drop n ts (p .2)
 
-  -- an outline's strokes
-  module _ (glyph offsets k : List ℕ) (x : ℕ) where
-    abbrev strokes : List (ℕ × ℕ) → List Stroke
-    strokes = outlineStrokes glyph offsets k o x y
+-- wider places
+around-wider : (high low o y : ℕ) → high ≤ y → y ≤ low → (ts : List Stroke) → Around y y o ts → Around high low o ts
+around-wider high low o y h l [] p = tt
+around-wider high low o y h l (t ∷ ts) p =
+    let above = p .0 in
+    let below = p .1 in
+    (omega arith, omega arith, around-wider high low o y h l ts (p .2))
 
-    row-around : (dy dx n : ℕ) → dy ≤ 2 * o → Around (strokes (ringRow o dy dx n))
-    unfolding ringRow
-    row-around dy dx zero h = tt
-    row-around dy dx (suc n) h = by (onRing o dx dy) (row-around dy (suc dx) n h)
-      where
-        by : (b : Bool) → Around (strokes (ringRow o dy (suc dx) n))
-            → Around (strokes (cond b ((dx, dy) ∷ ringRow o dy (suc dx) n) (ringRow o dy (suc dx) n)))
-        by true p = (omega arith, omega arith, p)
-        by false p = p
+-- a glyph's strokes
+module _ (y o : ℕ) (glyph offsets k : List ℕ) (x : ℕ) where
+  abbrev strokes : List (ℕ × ℕ) → List Stroke
+  strokes = outlineStrokes glyph offsets k o x y
 
-    rows-around : (dy n : ℕ) → dy + n ≤ 2 * o + 1 → Around (strokes (ringRows o dy n))
-    unfolding ringRows
-    rows-around dy zero h = tt
-    rows-around dy (suc n) h =
-        subst Around (sym (map-append _ (ringRow o dy 0 (2 * o + 1)) (ringRows o (suc dy) n)))
-        (around-append (strokes (ringRow o dy 0 (2 * o + 1))) (strokes (ringRows o (suc dy) n))
-        (row-around dy 0 (2 * o + 1) (omega arith)) (rows-around (suc dy) n (omega arith)))
+  row-around : (dy dx n : ℕ) → dy ≤ 2 * o → Around y y o (strokes (ringRow o dy dx n))
+  unfolding ringRow
+  row-around dy dx zero h = tt
+  row-around dy dx (suc n) h = by (onRing o dx dy) (row-around dy (suc dx) n h)
+    where
+      by : (b : Bool) → Around y y o (strokes (ringRow o dy (suc dx) n))
+          → Around y y o (strokes (cond b ((dx, dy) ∷ ringRow o dy (suc dx) n) (ringRow o dy (suc dx) n)))
+      by true p = (omega arith, omega arith, p)
+      by false p = p
 
-    ring-around : Around (strokes (ring o))
-    unfolding ring
-    ring-around = by (eqb o 0)
-      where
-        by : (b : Bool) → Around (strokes (cond b [] (ringRows o 0 (2 * o + 1))))
-        by true = tt
-        by false = rows-around 0 (2 * o + 1) (omega arith)
+  rows-around : (dy n : ℕ) → dy + n ≤ 2 * o + 1 → Around y y o (strokes (ringRows o dy n))
+  unfolding ringRows
+  rows-around dy zero h = tt
+  rows-around dy (suc n) h =
+      subst (Around y y o) (sym (map-append _ (ringRow o dy 0 (2 * o + 1)) (ringRows o (suc dy) n)))
+      (around-append y y o (strokes (ringRow o dy 0 (2 * o + 1))) (strokes (ringRows o (suc dy) n))
+      (row-around dy 0 (2 * o + 1) (omega arith)) (rows-around (suc dy) n (omega arith)))
 
-    -- a glyph's
-    glyph-around : (own : List ℕ) → Around (glyphStrokes glyph offsets k own o x y)
-    unfolding glyphStrokes
-    glyph-around own = around-append (strokes (ring o)) (stroke glyph offsets own x y ∷ []) ring-around (omega arith, omega arith, tt)
+  ring-around : Around y y o (strokes (ring o))
+  unfolding ring
+  ring-around = by (eqb o 0)
+    where
+      by : (b : Bool) → Around y y o (strokes (cond b [] (ringRows o 0 (2 * o + 1))))
+      by true = tt
+      by false = rows-around 0 (2 * o + 1) (omega arith)
 
--- a line's
-pub line-around : (s : Settings) (x y : ℕ) (ls : List Letter) → Around y (outlineOf s) (lineStrokes s x y ls)
-unfolding lineStrokes
-line-around s x y [] = tt
-line-around s x y (l ∷ ls) =
-    around-append y (outlineOf s) (letterStrokes s l x y) (lineStrokes s (x + cellW) y ls)
-    (glyph-around y (outlineOf s) _ _ _ x _) (line-around s (x + cellW) y ls)
+  glyph-around : (own : List ℕ) → Around y y o (glyphStrokes glyph offsets k own o x y)
+  unfolding glyphStrokes
+  glyph-around own = around-append y y o (strokes (ring o)) (stroke glyph offsets own x y ∷ []) ring-around (omega arith, omega arith, tt)
+
+module _ (s : Settings) where
+  -- a line's
+  pub line-around : (x y : ℕ) (ls : List Letter) → Around y y (outlineOf s) (lineStrokes s x y ls)
+  unfolding lineStrokes
+  line-around x y [] = tt
+  line-around x y (l ∷ ls) =
+      around-append y y (outlineOf s) (letterStrokes s l x y) (lineStrokes s (x + cellW) y ls)
+      (glyph-around y (outlineOf s) _ _ _ x _) (line-around (x + cellW) y ls)
+
+  -- a line with more lines below it stands higher
+  base-higher : (a b : ℕ) → a ≤ b → baseLine s b ≤ baseLine s a
+  unfolding baseLine
+  base-higher a b h = let rise = mul-le-mul-right {m = a} {n = b} (lineHeight s) h in omega arith
+
+  -- those of n lines of m
+  pub lines-around : (m n k i : ℕ) (ws : List ℕ) → n ≤ m → Around (baseLine s (m - 1)) (baseLine s 0) (outlineOf s) (strokesAt s ws k i n)
+  unfolding strokesAt
+  lines-around m zero k i ws h = tt
+  lines-around m (suc n) k i ws h =
+      let line : List Stroke =
+      lineStrokes s (lineStart s (lineWidth (columnsOn ws i))) (baseLine s n) (lettersAt ws k (lettersOn ws i)) in
+      around-append _ _ (outlineOf s) line (strokesAt s ws (k + lettersOn ws i) (suc i) n)
+      (around-wider _ _ (outlineOf s) (baseLine s n) (base-higher n (m - 1) (omega arith)) (base-higher 0 n (omega arith)) line
+      (line-around (lineStart s (lineWidth (columnsOn ws i))) (baseLine s n) (lettersAt ws k (lettersOn ws i))))
+      (lines-around m n (k + lettersOn ws i) (suc i) ws (omega arith))
 
 -- ---- on lent rows
 
-module _ (rows : Rows) (y o : ℕ) (low : 32 ≤ y) (thin : o ≤ 2) (off : offRows rows y o ≡ true) where
+module _ (rows : Rows) (high low o : ℕ) (far : 32 ≤ high) (thin : o ≤ 2) (off : offRows rows high low o ≡ true) where
   -- such a stroke is above a lent row, or below it
-  spared : (t : Stroke) (j : ℕ) (row : List ℕ) → j < rows .count → (y ≤ t .base + o) → (t .base ≤ y + o) → strokeOn t (rows .first + j) row ≡ row
+  spared : (t : Stroke) (j : ℕ) (row : List ℕ) → j < rows .count → high ≤ t .base + o → t .base ≤ low + o → strokeOn t (rows .first + j) row ≡ row
   unfolding offRows
-  spared t j row h p q = by (leb (y + o + 4) (origin + rows .first)) (leb (origin + rows .first + rows .count + o + 12) y) refl refl off
+  spared t j row h p q = by (leb (low + o + 4) (origin + rows .first)) (leb (origin + rows .first + rows .count + o + 12) high) refl refl off
     where
-      by : (a b : Bool) → leb (y + o + 4) (origin + rows .first) ≡ a → leb (origin + rows .first + rows .count + o + 12) y ≡ b → (a || b) ≡ true
+      by : (a b : Bool) → leb (low + o + 4) (origin + rows .first) ≡ a → leb (origin + rows .first + rows .count + o + 12) high ≡ b → (a || b) ≡ true
           → strokeOn t (rows .first + j) row ≡ row
       by true b e f g =
-          let above = leb-true (y + o + 4) (origin + rows .first) e in
+          let above = leb-true (low + o + 4) (origin + rows .first) e in
           stroke-below (t .glyph) (t .offsets) (t .color) (t .x) (t .base) (rows .first + j) row (omega arith)
       by false true e f g =
-          let below = leb-true (origin + rows .first + rows .count + o + 12) y f in
+          let below = leb-true (origin + rows .first + rows .count + o + 12) high f in
           stroke-above (t .glyph) (t .offsets) (t .color) (t .x) (t .base) (rows .first + j) row (omega arith)
       by false false e f g = absurd (true≢false (sym g))
 
-  all-spared : (ts : List Stroke) (j : ℕ) (row : List ℕ) → j < rows .count → Around y o ts → strokesOn ts (rows .first + j) row ≡ row
+  all-spared : (ts : List Stroke) (j : ℕ) (row : List ℕ) → j < rows .count → Around high low o ts → strokesOn ts (rows .first + j) row ≡ row
   unfolding strokesOn
   all-spared [] j row h p = refl
   all-spared (t ∷ ts) j row h p = rw (spared t j row h (p .0) (p .1)) (all-spared ts j row h (p .2))
 
   -- so whatever the window has of them, nothing changes
-  pub missing : (ts : List Stroke) {n : ℕ} (w : Window) (part : List ℕ) → n ≡ length ts → Around y o ts → Painted rows ts w part part (after w n)
+  pub missing : (ts : List Stroke) {n : ℕ} (w : Window) (part : List ℕ) → n ≡ length ts → Around high low o ts → Painted rows ts w part part (after w n)
   missing ts w part e p =
-      let some = around-drop y o (w .from) (take (w .to) ts) (around-take y o (w .to) ts p) in
+      let some = around-drop high low o (w .from) (take (w .to) ts) (around-take high low o (w .to) ts p) in
       record {
         paints =
             sym (rows-kept (strokesOn (cut w ts)) (4 * rows .width) (rows .count) (rows .first) part (λ j row h. all-spared (cut w ts) j row h some));

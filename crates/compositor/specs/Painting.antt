@@ -46,10 +46,10 @@ after w n = record { from = w .from - n; to = w .to - n }
 abbrev pub misses : Window → ℕ → Bool
 misses w n = leb n (w .from) || eqb (w .to) 0
 
--- glyphs on the base line at place y, and outlines of o around them, are all above the lent rows, or all below them
-unfoldable pub offRows : Rows → ℕ → ℕ → Bool
-offRows rows y o =
-    leb (y + o + (cellH - bearingY)) (origin + rows .first) || leb (origin + rows .first + rows .count + o + bearingY) y
+-- glyphs on base lines from place `high` down to place `low`, and outlines of o around them, are all above the lent rows, or all below them
+unfoldable pub offRows : Rows → ℕ → ℕ → ℕ → Bool
+offRows rows high low o =
+    leb (low + o + (cellH - bearingY)) (origin + rows .first) || leb (origin + rows .first + rows .count + o + bearingY) high
 
 -- the lent rows with strokes
 abbrev pub painted : Rows → List Stroke → List ℕ → List ℕ

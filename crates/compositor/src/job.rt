@@ -8,12 +8,12 @@ ghost use Rattle.tape.specs.Outcome.{refuseIf};
 ghost use Rattle.tape.specs.Tape.{refuseLengths};
 ghost use Rattle.compositor.specs.Settings.{pictureBytes};
 ghost use Rattle.compositor.specs.Draw.{refuseSettings};
-ghost use Rattle.compositor.specs.Stripes.{firstRow, hasStripe, stripesUnfit, counterOf, countersUnsound};
-ghost use Rattle.compositor.specs.Work.{openCall, newRecord, workRecord, onStripe};
+ghost use Rattle.compositor.specs.Stripes.{firstRow, hasStripe, stripesUnfit, countersUnsound};
+ghost use Rattle.compositor.specs.Work.{openCall, newRecord, onStripe};
 ghost use Rattle.compositor.specs.Worked.{Opened, Worked};
 ghost use Rattle.compositor.specs.Read.{lettersFrom, strokesAt, Readable};
 ghost use Rattle.compositor.specs.Painting.{cut};
-ghost use Rattle.compositor.specs.Ready.{InRange, Checked, JobAdmitted, Lined, CueRead, Workable, StripeWorked};
+ghost use Rattle.compositor.specs.Ready.{InRange, Checked, JobAdmitted, CueRead, Workable, StripeWorked};
 use crate::Answer;
 use crate::Cue;
 use crate::Settings;
@@ -127,7 +127,8 @@ pub fn open(
 {
     match read_job(s, tape, ws, picture.len(), stripe_height) {
         Cue::Laid(_, total) => {
-            crate::clear(picture, s.picture_bytes());
+            let size = s.picture_bytes();
+            crate::clear(picture, size);
             JobAnswer {
                 answer: Answer::Strokes(total),
                 job: JobRecord::new(stripe_height),

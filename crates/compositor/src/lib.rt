@@ -6,7 +6,7 @@ mod layout;
 mod strokes;
 
 ghost use mathlib.Core.Path.{_≡_};
-ghost use mathlib.Core.List.{List, _++_};
+ghost use mathlib.Core.List.{_++_};
 ghost use Prim.Native.Nat.{_+_, _*_, _≤_, _<_};
 ghost use lib.ListN.{length, drop, replicate};
 ghost use Rattle.tape.specs.Tape.{mostBytes, leastRoom, refuseLengths};

@@ -308,17 +308,18 @@ fn draw_line(
     left
 }
 
-// Whether lines at place y miss the lent rows, outlined by o.
-fn is_off(rows: Rows, y: usize, o: usize) -> bool
-    requires { ⌜ (rows .count ≤ 4096) × (rows .first ≤ 4096) × (y < 2 * origin) × (o ≤ 2) ⌝ }
-    ensures { λ r. ⌜ r ≡ offRows rows y o ⌝ }
+// Whether lines with base lines from place `high` down to place `low`, outlined by o, miss the lent
+// rows.
+fn is_off(rows: Rows, high: usize, low: usize, o: usize) -> bool
+    requires { ⌜ (rows .count ≤ 4096) × (rows .first ≤ 4096) × (low < 2 * origin) × (o ≤ 2) ⌝ }
+    ensures { λ r. ⌜ r ≡ offRows rows high low o ⌝ }
 {
     let top = ORIGIN + rows.first;
-    let below = BitmapFont::CELL_H as usize - BitmapFont::BEARING_Y as usize;
-    if y + o + below <= top {
+    let descent = BitmapFont::CELL_H as usize - BitmapFont::BEARING_Y as usize;
+    if low + o + descent <= top {
         return true;
     }
-    top + rows.count + o + BitmapFont::BEARING_Y as usize <= y
+    top + rows.count + o + BitmapFont::BEARING_Y as usize <= high
 }
 
 // Draws a line of the workspace's table at place y, its letters from the `first` on. Where it misses
@@ -345,7 +346,7 @@ fn place_line(
         window (now (part .entry)) (now (part .exit)) r ⌝ }
 {
     let strokes = letters * s.letter_strokes();
-    if is_off(rows, y, s.outline()) {
+    if is_off(rows, y, y, s.outline()) {
         return window.past(strokes);
     }
     if window.misses(strokes) {
@@ -412,12 +413,18 @@ fn draw_each_line(
     }
 }
 
-// Draws the lines of the workspace. The tables are laid out here, once, and lent.
+// Draws the lines of the workspace. The tables are laid out here, once, and lent; not where no line
+// can touch the lent rows.
 pub fn draw_lines(part: &mut [u8], rows: Rows, ws: &[u8], s: Settings, lines: usize, window: Window)
     requires { ⌜ Lent (length (now part)) rows × Readable (now ws) (lettersFrom (now ws) 0 lines) × InRange s × (lines ≤ 4097) ⌝ }
     ensures { λ _. ⌜ now (part .exit) ≡ painted rows (cut window (strokesAt s (now (ws .entry)) 0 0 lines)) (now (part .entry)) ⌝ }
 {
     if lines == 0 {
+        return;
+    }
+    let high = layout::baseline(s, lines - 1);
+    let low = layout::baseline(s, 0);
+    if is_off(rows, high, low, s.outline()) {
         return;
     }
     let font = BitmapFont::default_regular();

@@ -1,20 +1,29 @@
-// Replays a sample of drawn captions. Each entry has, high byte first: width and height, two bytes
-// each; the default color and the outline's, red, green, blue, alpha; line height, bottom margin,
-// outline and alignment, four bytes each; how many bytes the picture's buffer has and the tape's
-// length, two each; and then the tape. Writes a line for each: how many strokes the caption has and a
-// digest of the whole buffer, which held 5A throughout before the call; or the refusal.
+// Replays a sample of calls of Draw, and of jobs: an Open and the Works after it. Each entry has, high
+// byte first: width and height, two bytes each; the default color and the outline's, red, green, blue,
+// alpha; line height, bottom margin, outline and alignment, four bytes each; then two bytes each: the
+// stripe height; 0 for a Draw, or 1 more than the job has Works; how many bytes the picture's buffer
+// has; and how many bytes follow. Those are the Works, each its stripe in one byte and its budget in
+// four, and then the tape. Writes a line for each call: how many strokes the caption has, or a Work
+// did, and a digest of the whole buffer, which held 5A throughout before the first; or the refusal. A
+// job whose Open is refused ends with it.
 //
-// The file `stdin` holds random captions and faulty calls, and `stdout` what the original makes of
-// the captions, and what document 01 says of the others (`compare draw-sample` and `compare
-// draw-sample-answers` in host/ write them), so each run of the gate holds drawing to the original.
+// The file `stdin` holds random captions and jobs, and faulty calls, and `stdout` what the original
+// makes of the captions, also where it is stopped after so many strokes, and what document 01 says of
+// the others (`compare draw-sample` and `compare draw-sample-answers` in host/ write them), so each
+// run of the gate holds drawing, in one call and in many, to the original.
 ghost use Prim.Native.Nat.{_+_, _≤_, _<_};
 ghost use lib.ListN.{length};
 use compositor::Answer;
 use compositor::Settings;
+use compositor::job;
+use compositor::job::JobRecord;
 use libc::STDIN_FILENO;
 
-// The bytes of an entry before its tape.
-const HEADER: usize = 32;
+// The bytes of an entry before its Works.
+const HEADER: usize = 36;
+
+// The bytes of a Work.
+const WORK: usize = 5;
 
 // The number in four bytes at a place, high byte first.
 fn long_at(bytes: &[u8], at: usize) -> u32
@@ -30,7 +39,7 @@ fn color_at(bytes: &[u8], at: usize) -> [u8; 4]
 }
 
 fn settings(entry: &[u8]) -> Settings
-    requires { ⌜ 32 ≤ length (now entry) ⌝ }
+    requires { ⌜ 36 ≤ length (now entry) ⌝ }
 {
     let own = color_at(entry, 4);
     let around = color_at(entry, 8);
@@ -56,28 +65,99 @@ fn fill(picture: &mut [u8], size: usize)
     }
 }
 
-fn draw(s: Settings, tape: &[u8], workspace: &mut [u8], picture: &mut [u8]) -> bool {
-    match compositor::render_into(s, tape, workspace, picture) {
-        Answer::Strokes(total) => report::write_digest(total, report::digest(0, picture)),
+fn write_answer(answer: Answer, picture: &[u8]) -> bool {
+    match answer {
+        Answer::Strokes(strokes) => report::write_digest(strokes, report::digest(0, picture)),
         Answer::Refused(number, place) => report::write_refusal(number, place),
     }
 }
 
-// Draws one entry. False where the output takes no more.
-fn print_picture(entry: &[u8], workspace: &mut [u8], picture: &mut [u8]) -> bool
-    requires { ⌜ (32 ≤ length (now entry)) × (65535 ≤ length (now picture)) ⌝ }
+fn draw(s: Settings, tape: &[u8], workspace: &mut [u8], picture: &mut [u8]) -> bool {
+    let answer = compositor::render_into(s, tape, workspace, picture);
+    write_answer(answer, picture)
+}
+
+// Does the Works of a job that was opened, each on what the call before it left.
+fn work(
+    s: Settings,
+    works: &[u8],
+    tape: &[u8],
+    workspace: &mut [u8],
+    picture: &mut [u8],
+    opened: JobRecord,
+) -> bool {
+    let mut record = opened;
+    let mut at = 0;
+    while WORK <= works.len() - at {
+        let stripe = works[at] as u32;
+        let budget = long_at(works, at + 1);
+        let done = job::work(s, tape, workspace, picture, record, stripe, budget);
+        let answer = done.answer;
+        if !write_answer(answer, picture) {
+            return false;
+        }
+        record = done.job;
+        at += WORK;
+    }
+    true
+}
+
+// Opens a job, and does its Works where that is not refused.
+fn open(
+    s: Settings,
+    stripe_height: u32,
+    works: &[u8],
+    tape: &[u8],
+    workspace: &mut [u8],
+    picture: &mut [u8],
+) -> bool {
+    let opened = job::open(s, tape, workspace, picture, stripe_height);
+    let answer = opened.answer;
+    if !write_answer(answer, picture) {
+        return false;
+    }
+    let record = opened.job;
+    match answer {
+        Answer::Strokes(_) => work(s, works, tape, workspace, picture, record),
+        Answer::Refused(_, _) => true,
+    }
+}
+
+// Where the tape of an entry is due: behind its header and its Works.
+fn tape_start(entry: &[u8]) -> usize
+    requires { ⌜ 36 ≤ length (now entry) ⌝ }
+    ensures { λ r. ⌜ 36 ≤ r ⌝ }
 {
-    let size = report::number_at(entry, 28);
+    let calls = report::number_at(entry, 30);
+    if calls == 0 {
+        return HEADER;
+    }
+    HEADER + WORK * (calls - 1)
+}
+
+// Makes the calls of one entry, whose tape begins at a place. False where the output takes no more.
+fn print_calls(entry: &[u8], start: usize, workspace: &mut [u8], picture: &mut [u8]) -> bool
+    requires { ⌜ (36 ≤ start) × (start ≤ length (now entry)) × (65535 ≤ length (now picture)) ⌝ }
+{
+    let s = settings(entry);
+    let stripe_height = report::number_at(entry, 28) as u32;
+    let size = report::number_at(entry, 32);
     fill(picture, size);
-    draw(
-        settings(entry),
-        &entry[HEADER..entry.len()],
+    let tape = &entry[start..entry.len()];
+    if report::number_at(entry, 30) == 0 {
+        return draw(s, tape, workspace, &mut picture[0..size]);
+    }
+    open(
+        s,
+        stripe_height,
+        &entry[HEADER..start],
+        tape,
         workspace,
         &mut picture[0..size],
     )
 }
 
-// Draws entry after entry; false where the sample is cut short.
+// Makes the calls of entry after entry; false where the sample is cut short.
 fn replay(entries: &[u8], workspace: &mut [u8], picture: &mut [u8]) -> bool
     requires { ⌜ 65535 ≤ length (now picture) ⌝ }
 {
@@ -87,7 +167,12 @@ fn replay(entries: &[u8], workspace: &mut [u8], picture: &mut [u8]) -> bool
         if entries.len() < end {
             return false;
         }
-        if !print_picture(&entries[at..end], workspace, picture) {
+        let entry = &entries[at..end];
+        let start = tape_start(entry);
+        if entry.len() < start {
+            return false;
+        }
+        if !print_calls(entry, start, workspace, picture) {
             return true;
         }
         at = end;

@@ -19,8 +19,8 @@ pub fn number_at(bytes: &[u8], at: usize) -> usize
     wide(bytes[at]) * 256 + wide(bytes[at + 1])
 }
 
-// Where the entry of a sample ends that begins at a place: behind a header, whose last two bytes are
-// the length of a tape, and the tape. Past the entries' end where it is cut short.
+// Where the entry of a sample ends that begins at a place: behind a header, whose last two bytes say
+// how many bytes follow it, and those. Past the entries' end where it is cut short.
 pub fn entry_end(entries: &[u8], at: usize, header: usize) -> usize
     requires { ⌜ (at < length (now entries)) × (2 ≤ header) × (header ≤ 65536) ⌝ }
     ensures { λ r. ⌜ (r ≤ length (now (entries .entry)) → at + header ≤ r) ⌝ }

@@ -9,9 +9,9 @@ usage: compare [--pictures N] [--tapes N] [--cues N] [--frames N] [--jobs N] [--
        compare lines-sample     write the limits and tapes that the program `lines_sample` reads
        compare lines-sample-answers
                                 write what the original makes of them
-       compare draw-sample      write the settings and tapes that the program `replay` reads
+       compare draw-sample      write the calls that the program `replay` makes: Draw, Open and Work
        compare draw-sample-answers
-                                write what the original draws of them
+                                write what the original draws by them
        compare speed            write how long both take, and the ratio; and Open and Work alone";
 
 #[derive(Debug, PartialEq)]

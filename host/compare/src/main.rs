@@ -44,8 +44,14 @@ fn main() -> ExitCode {
         Command::SampleAnswers => write(tape::sample::answers(&original).as_bytes()),
         Command::LinesSample => write(&wrap::sample::entries()),
         Command::LinesSampleAnswers => write(wrap::sample::answers(&original).as_bytes()),
-        Command::DrawSample => write(&draw::sample::entries()),
-        Command::DrawSampleAnswers => write(draw::sample::answers(&original).as_bytes()),
+        Command::DrawSample => {
+            let entries = [draw::sample::entries(), work::sample::entries(&original)];
+            write(&entries.concat())
+        }
+        Command::DrawSampleAnswers => {
+            let answers = draw::sample::answers(&original) + &work::sample::answers(&original);
+            write(answers.as_bytes())
+        }
         Command::Speed => {
             let tables = tape::speed::table(&original)
                 + &wrap::speed::table(&original)

@@ -1,7 +1,6 @@
 use mathlib.Core.Path.{_≡_, _∙_, sym}
 use mathlib.Core.Bool.{false}
 use Prim.Native.Nat.{_≤_}
-use lib.ListN.{length}
 use Rattle.compositor.specs.Settings.{outOfRange, pictureBytes}
 use Rattle.compositor.proofs.Ranges.{in-range}
 use Rattle.compositor.proofs.Checks.{out-of-range, short-picture, long-tape, short-workspace, all-fine}

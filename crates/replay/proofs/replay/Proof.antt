@@ -29,66 +29,75 @@ returns : tie.Need-returns Inv-loop μ-loop
 returns c = tt
 
 -- an entry that is whole ends behind its header
-far : (c : tie.Else1 Inv-loop μ-loop) → c .before .before .before .loop .at + 32 ≤ c .before .entry-end .result
+far : (c : tie.Else1 Inv-loop μ-loop) → c .before .before .before .loop .at + 36 ≤ c .before .entry-end .result
 far c = c .before .entry-end .ensures (c .if1 .left)
 
-sub-print-picture : tie.Need-sub-print-picture Inv-loop μ-loop
-sub-print-picture c = let h = far c in omega arith
+sub-entry : tie.Need-sub-entry Inv-loop μ-loop
+sub-entry c = let h = far c in omega arith
 
-part-print-picture-start : tie.Need-part-print-picture-start Inv-loop μ-loop
-part-print-picture-start c = let h = far c in search needs
+part-entry-start : tie.Need-part-entry-start Inv-loop μ-loop
+part-entry-start c = let h = far c in search needs
 
-part-print-picture-end : tie.Need-part-print-picture-end Inv-loop μ-loop
-part-print-picture-end c = search needs
+part-entry-end : tie.Need-part-entry-end Inv-loop μ-loop
+part-entry-end c = search needs
 
-print-picture-requires : tie.Need-print-picture-requires Inv-loop μ-loop
-print-picture-requires c κs =
-    let branch1 = c .before .before .before in
-    let at-loop = branch1 .before .before .before in
-    let start = at-loop .before .before .before .before in
-    let h = far (branch1) in
-    let l = branch1 .if1 .left in
-    let n = at-loop .loop .inv .2 in
-    let p = start .pre in
-    (search needs, omega arith)
+tape-start-requires : tie.Need-tape-start-requires Inv-loop μ-loop
+tape-start-requires c κs = let h = far (c .before) in let l = c .before .if1 .left in search needs
 
 same-length-3 : tie.Need-same-length-3 Inv-loop μ-loop
-same-length-3 c =
-    let after-print-picture = c .before .before .before .before .before in
-    let at-loop = after-print-picture .before .before .before .before .before .before .before in
-    after-print-picture .print-picture .kept .1 .0 ∙ at-loop .loop .inv .1
+same-length-3 c = c .before .before .before .before .before .before .loop .inv .1
 
 same-length-4 : tie.Need-same-length-4 Inv-loop μ-loop
-same-length-4 c =
-    let after-print-picture = c .before .before .before .before .before in
-    let at-loop = after-print-picture .before .before .before .before .before .before .before in
-    after-print-picture .print-picture .kept .1 .1 .0 ∙ at-loop .loop .inv .2
+same-length-4 c = c .before .before .before .before .before .before .loop .inv .2
 
 returns-2 : tie.Need-returns-2 Inv-loop μ-loop
 returns-2 c = tt
 
-loop-less : tie.Need-loop-less Inv-loop μ-loop
-loop-less c =
-    let branch1 = c .before .before .before .before .before .before .before .before .before in
-    let h = far (branch1) in let l = branch1 .if1 .left in omega arith
-
-loop-again : tie.Need-loop-again Inv-loop μ-loop
-loop-again c =
-    let after-print-picture = c .before .before .before .before .before in
-    let branch1 = after-print-picture .before .before .before .before in
-    let at-loop = branch1 .before .before .before in
-    let p = after-print-picture .print-picture in
-    let l = at-loop .loop in
-    (branch1 .if1 .left, p .kept .1 .0 ∙ l .inv .1, p .kept .1 .1 .0 ∙ l .inv .2)
+print-calls-requires : tie.Need-print-calls-requires Inv-loop μ-loop
+print-calls-requires c κs =
+    let else2 = c .before .before in
+    let at-loop = else2 .before .before .before .before .before .before in
+    let start = at-loop .before .before .before .before in
+    let n = at-loop .loop .inv .2 in
+    let p = start .pre in
+    (else2 .before .tape-start .ensures, else2 .if2 .left, omega arith)
 
 same-length-5 : tie.Need-same-length-5 Inv-loop μ-loop
-same-length-5 c = c .before .loop .inv .1
+same-length-5 c =
+    let after-print-calls = c .before .before .before .before .before in
+    let at-loop = after-print-calls .before .before .before .before .before .before .before .before .before in
+    after-print-calls .print-calls .kept .1 .1 .0 ∙ at-loop .loop .inv .1
 
 same-length-6 : tie.Need-same-length-6 Inv-loop μ-loop
-same-length-6 c = c .before .loop .inv .2
+same-length-6 c =
+    let after-print-calls = c .before .before .before .before .before in
+    let at-loop = after-print-calls .before .before .before .before .before .before .before .before .before in
+    after-print-calls .print-calls .kept .1 .1 .1 .0 ∙ at-loop .loop .inv .2
 
 returns-3 : tie.Need-returns-3 Inv-loop μ-loop
 returns-3 c = tt
+
+loop-less : tie.Need-loop-less Inv-loop μ-loop
+loop-less c =
+    let else1 = c .before .before .before .before .before .before .before .before .before .before .before in
+    let h = far else1 in let l = else1 .if1 .left in omega arith
+
+loop-again : tie.Need-loop-again Inv-loop μ-loop
+loop-again c =
+    let after-print-calls = c .before .before .before .before .before in
+    let else1 = after-print-calls .before .before .before .before .before .before in
+    let p = after-print-calls .print-calls in
+    let inv = else1 .before .before .before .loop .inv in
+    (else1 .if1 .left, p .kept .1 .1 .0 ∙ inv .1, p .kept .1 .1 .1 .0 ∙ inv .2)
+
+same-length-7 : tie.Need-same-length-7 Inv-loop μ-loop
+same-length-7 c = c .before .loop .inv .1
+
+same-length-8 : tie.Need-same-length-8 Inv-loop μ-loop
+same-length-8 c = c .before .loop .inv .2
+
+returns-4 : tie.Need-returns-4 Inv-loop μ-loop
+returns-4 c = tt
 
 pub replay-spec : {M : Type 1} → statement M
 replay-spec =
@@ -101,15 +110,19 @@ replay-spec =
     same-length
     same-length-2
     returns
-    sub-print-picture
-    part-print-picture-start
-    part-print-picture-end
-    print-picture-requires
+    sub-entry
+    part-entry-start
+    part-entry-end
+    tape-start-requires
     same-length-3
     same-length-4
     returns-2
-    loop-less
-    loop-again
+    print-calls-requires
     same-length-5
     same-length-6
-    returns-3)
+    returns-3
+    loop-less
+    loop-again
+    same-length-7
+    same-length-8
+    returns-4)

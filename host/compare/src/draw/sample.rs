@@ -1,9 +1,9 @@
-//! The sample that the proved program `replay` replays: settings and tapes, and what the original
-//! draws of them.
+//! The Draws of the sample that the proved program `replay` replays, and what the original draws of
+//! them; and how an entry and an answer of the sample are written.
 
 use crate::digest::digest;
 use crate::draw::due;
-use crate::draw::frame::Frame;
+use crate::draw::frame::{Frame, Outcome};
 use crate::draw::generate;
 use crate::draw::settings::{LINE_HEIGHT_MAX, SIDE_MAX};
 use crate::random::Random;
@@ -13,6 +13,7 @@ use crate::wrap::cues::{self, Cue};
 use oxideav_core::{Segment, SubtitleCue};
 use reference::Original;
 use std::fmt::Write;
+use std::ops::RangeInclusive;
 
 const ENTRIES: u64 = 400;
 const SEED: u64 = 22;
@@ -21,8 +22,8 @@ const APART: u64 = 20;
 /// How long a tape may be, and one with a letter too many.
 const SHORT: usize = 400;
 const FULL: usize = 4200;
-/// What a buffer holds before the call.
-const FILLED: u8 = 0x5a;
+/// What a buffer holds before the first call.
+pub const FILLED: u8 = 0x5a;
 /// The outlines, which each alignment meets in turn.
 const OUTLINES: [u32; 4] = [1, 2, 0, 9];
 
@@ -37,52 +38,71 @@ enum Due {
     Refused(Refusal),
 }
 
-/// The entries, one after the other: the settings in document 01's order, of which width and height
-/// have two bytes and the others four; two bytes of the picture's buffer's length and two of the
-/// tape's, high byte first; and the tape.
+/// The entries of the Draws.
 pub fn entries() -> Vec<u8> {
     let mut bytes = Vec::new();
     for Entry { frame, .. } in all() {
-        let settings = &frame.settings;
-        for side in [settings.width, settings.height] {
-            bytes.extend((side as u16).to_be_bytes());
-        }
-        bytes.extend(settings.default_color);
-        bytes.extend(settings.outline_color);
-        for number in [
-            settings.line_height,
-            settings.bottom_margin,
-            settings.outline,
-            settings.alignment,
-        ] {
-            bytes.extend(number.to_be_bytes());
-        }
-        for length in [frame.bytes.len(), frame.tape.len()] {
-            bytes.extend((length as u16).to_be_bytes());
-        }
-        bytes.extend(frame.tape);
+        put(&mut bytes, &frame, 0, 0, &[]);
     }
     bytes
 }
 
-/// A line for each entry: its strokes and the digest of the buffer after it, or its refusal.
+/// Puts an entry behind others: the settings in document 01's order, of which width and height have
+/// two bytes and the others four; two bytes each of the stripe height, of the job's calls, which a
+/// Draw has none of, of the picture's buffer's length and of how many bytes follow, high byte first;
+/// and the Works and the tape.
+pub fn put(bytes: &mut Vec<u8>, frame: &Frame, stripe_height: u16, calls: u16, works: &[u8]) {
+    let settings = &frame.settings;
+    for side in [settings.width, settings.height] {
+        bytes.extend((side as u16).to_be_bytes());
+    }
+    bytes.extend(settings.default_color);
+    bytes.extend(settings.outline_color);
+    for number in [
+        settings.line_height,
+        settings.bottom_margin,
+        settings.outline,
+        settings.alignment,
+    ] {
+        bytes.extend(number.to_be_bytes());
+    }
+    let follow = works.len() + frame.tape.len();
+    let size = frame.bytes.len();
+    for number in [stripe_height, calls, size as u16, follow as u16] {
+        bytes.extend(number.to_be_bytes());
+    }
+    bytes.extend(works);
+    bytes.extend(&frame.tape);
+}
+
+/// A line for each Draw.
 pub fn answers(original: &Original) -> String {
     let mut text = String::new();
     for Entry { frame, due } in all() {
-        let _ = match due {
+        let due = match due {
             Due::Drawn(segments) => {
                 let cue = SubtitleCue {
                     segments,
                     positioning: frame.settings.positioning(false),
                 };
-                let drawn = due::drawn(original, &frame.settings, &cue, &frame.bytes);
-                let digest = digest(drawn.bytes);
-                writeln!(text, "{} {digest:08x}", drawn.strokes)
+                Ok(due::drawn(original, &frame.settings, &cue, &frame.bytes))
             }
-            Due::Refused(Refusal { number, place }) => writeln!(text, "refused {number} {place}"),
+            Due::Refused(refusal) => Err(refusal),
         };
+        answer(&mut text, &due);
     }
     text
+}
+
+/// Writes the line of a call: its strokes and the digest of the buffer after it, or its refusal.
+pub fn answer(text: &mut String, due: &Outcome) {
+    let _ = match due {
+        Ok(drawn) => {
+            let digest = digest(drawn.bytes.iter().copied());
+            writeln!(text, "{} {digest:08x}", drawn.strokes)
+        }
+        Err(Refusal { number, place }) => writeln!(text, "refused {number} {place}"),
+    };
 }
 
 fn all() -> impl Iterator<Item = Entry> {
@@ -97,13 +117,27 @@ fn all() -> impl Iterator<Item = Entry> {
 }
 
 fn drawn(random: &mut Random, number: u64) -> Entry {
+    let (frame, segments) = caption(random, number, 0..=60, SHORT);
+    Entry {
+        frame,
+        due: Due::Drawn(segments),
+    }
+}
+
+/// A cue of so many letters and at most so many bytes, on a small picture.
+pub fn caption(
+    random: &mut Random,
+    number: u64,
+    letters: RangeInclusive<i64>,
+    most: usize,
+) -> (Frame, Vec<Segment>) {
     let Cue { segments, tape } = loop {
         let cue = if random.one_in(4) {
-            cues::sized(random, 0..=60)
+            cues::sized(random, letters.clone())
         } else {
-            generate::legible(random, 0..=60)
+            generate::legible(random, letters.clone())
         };
-        if cue.tape.len() <= SHORT {
+        if cue.tape.len() <= most {
             break cue;
         }
     };
@@ -113,10 +147,7 @@ fn drawn(random: &mut Random, number: u64) -> Entry {
     if !random.one_in(6) {
         frame.settings.bottom_margin = random.within_u32(0..=12);
     }
-    Entry {
-        frame,
-        due: Due::Drawn(segments),
-    }
+    (frame, segments)
 }
 
 /// A picture of at most 64,000 bytes, and now and then a few bytes behind it.

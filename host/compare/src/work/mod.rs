@@ -10,6 +10,7 @@ mod job;
 mod kinds;
 pub mod record;
 mod refusals;
+pub mod sample;
 pub mod speed;
 mod steps;
 mod stopped;

@@ -1,5 +1,3 @@
-use mathlib.Core.Path.{_≡_, _∙_}
-use Rattle.tape.specs.Outcome.{accepted}
 use Rattle.compositor.proofs.Admitted.{open-admitted}
 use Rattle.compositor.proofs.Jobs.{not-opened, did-open}
 use borrow.Author.Needs.{needs}
@@ -14,13 +12,13 @@ enum-known-total c = search needs
 
 picture-bytes-requires : tie.Need-picture-bytes-requires
 picture-bytes-requires c κs =
-    let r = rw (c .before .before .total .given .1) at (c .before .before .before .before .before .before .read-job .ensures) in
+    let r = rw (c .before .total .given .1) at (c .before .before .before .before .before .read-job .ensures) in
     open-admitted _ _ _ _ _ (r .1) .admitted .range
 
 clear-requires : tie.Need-clear-requires
 clear-requires c κs =
     let r = rw (c .before .before .before .total .given .1) at (c .before .before .before .before .before .before .before .read-job .ensures) in
-    rw (c .picture-bytes .ensures) (open-admitted _ _ _ _ _ (r .1) .admitted .fits)
+    rw (c .before .picture-bytes .ensures) (open-admitted _ _ _ _ _ (r .1) .admitted .fits)
 
 new-requires : tie.Need-new-requires
 new-requires c κs = search needs
@@ -41,7 +39,7 @@ returns : tie.Need-returns
 returns c =
     let r = rw (c .before .before .before .before .before .before .before .total .given .1) at (c .before .before .before .before .before .before .before .before .before .before .before .read-job .ensures) in
     rw (c .new .ensures)
-    (did-open _ _ _ _ _ _ _ (r .1) (r .0 .total-is) (rw (c .before .before .before .before .picture-bytes .ensures) at (c .before .before .before .clear .ensures)))
+    (did-open _ _ _ _ _ _ _ (r .1) (r .0 .total-is) (rw (c .before .before .before .before .before .picture-bytes .ensures) at (c .before .before .before .clear .ensures)))
 
 same-length-3 : tie.Need-same-length-3
 same-length-3 c = search needs

@@ -1,4 +1,3 @@
-use mathlib.Core.Path.{_≡_, _∙_}
 use Rattle.compositor.proofs.Admitted.{open-admitted}
 use Rattle.compositor.proofs.Jobs.{not-worked, worked-on}
 use borrow.Author.Needs.{needs}

@@ -1,11 +1,11 @@
-use mathlib.Core.Path.{_≡_, _∙_, refl, sym}
+use mathlib.Core.Path.{_≡_, _∙_, sym}
 use mathlib.Core.Bool.{true, false}
 use Prim.Native.Nat.{_≤_, _<_}
 use native.Mathlib.Omega.{arith}
 use borrow.Author.Tests.{ltb-true, not-true, not-false}
 use lib.ListN.{length}
 use Rattle.compositor.specs.Read.{strokesAt}
-use Rattle.compositor.specs.Stripes.{firstRow, hasStripe, counterOf, countersUnsound}
+use Rattle.compositor.specs.Stripes.{hasStripe, counterOf, countersUnsound}
 use Rattle.compositor.proofs.Jobs.{unsound, no-stripe, did-work}
 use Rattle.compositor.proofs.Stripes.{some-rows, stripe-low, counter-small}
 use borrow.Author.Needs.{needs}

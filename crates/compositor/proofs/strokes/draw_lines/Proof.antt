@@ -1,10 +1,13 @@
-use mathlib.Core.Path.{_∙_, ap}
+use mathlib.Core.Path.{_∙_, refl, sym, ap}
 use mathlib.Core.Bool.{true, false}
+use native.Mathlib.Omega.{arith}
 use Rattle.font.specs.declared.BitmapFont.{BitmapFont}
 use Rattle.font.specs.Font.{tableOf}
 use Rattle.font.proofs.Rounding.{leans-back, shear-of}
 use Rattle.compositor.specs.Read.{strokesAt}
+use Rattle.compositor.specs.Outline.{outlineOf}
 use Rattle.compositor.proofs.Painting.{nothing}
+use Rattle.compositor.proofs.Off.{lines-around, missing}
 use borrow.Author.Needs.{needs}
 use Rattle.compositor.proofs.strokes.draw_lines.Statement.{statement}
 use Rattle.compositor.proofs.strokes.draw_lines.Tie as tie
@@ -14,6 +17,33 @@ unfolding strokesAt
 returns c =
     let a = c .before .before .before .args in
     rw (c .if1 .taken) (nothing (a .rows) (a .window) (a .part .now) .paints)
+
+sub-baseline : tie.Need-sub-baseline
+sub-baseline c = search needs
+
+baseline-requires : tie.Need-baseline-requires
+baseline-requires c κs = search needs
+
+baseline-requires-2 : tie.Need-baseline-requires-2
+baseline-requires-2 c κs = search needs
+
+outline-requires : tie.Need-outline-requires
+outline-requires c κs = search needs
+
+is-off-requires : tie.Need-is-off-requires
+is-off-requires c κs = search needs
+
+returns-2 : tie.Need-returns-2
+returns-2 c =
+    let s = c .before .before .before .before .before .before .before .before in
+    let a = s .args in
+    let o = c .before .before .outline .ensures in
+    let high = c .before .before .before .before .baseline .ensures in
+    let low = c .before .before .before .baseline2 .ensures .0 in
+    let off = rw (high .0, low, o .0) at (sym (c .before .is-off .ensures) ∙ c .if2 .taken) in
+    missing (a .rows) _ _ (outlineOf (a .s)) (rw (high .0) at (high .1)) (omega arith) off _ (a .window) (a .part .now) refl
+    (lines-around (a .s) (a .lines) (a .lines) 0 0 (a .ws .now) (omega arith))
+    .paints
 
 default-regular-requires : tie.Need-default-regular-requires
 default-regular-requires c κs = search needs
@@ -49,7 +79,7 @@ draw-each-line-requires c κs =
     let after-default-bold = after-table2 .before in
     let after-table = after-default-bold .before in
     let after-default-regular = after-table .before in
-    let s = after-default-regular .before .before .before .before in (
+    let s = after-default-regular .before .before .before .before .before .before .before .before .before in (
       s .pre .0,
       record {
         regular-is = after-table .table .ensures ∙ ap (λ (f : BitmapFont). tableOf (f .bold)) (after-default-regular .default-regular .ensures);
@@ -65,14 +95,20 @@ draw-each-line-requires c κs =
 same-length : tie.Need-same-length
 same-length c = search needs
 
-returns-2 : tie.Need-returns-2
-returns-2 c = c .before .before .draw-each-line .ensures
+returns-3 : tie.Need-returns-3
+returns-3 c = c .before .before .draw-each-line .ensures
 
 pub draw-lines-spec : {M : Type 1} → statement M
 draw-lines-spec =
     tie.close
     (tie.spec
     returns
+    sub-baseline
+    baseline-requires
+    baseline-requires-2
+    outline-requires
+    is-off-requires
+    returns-2
     default-regular-requires
     table-requires
     default-bold-requires
@@ -83,4 +119,4 @@ draw-lines-spec =
     row-offsets-requires-2
     draw-each-line-requires
     same-length
-    returns-2)
+    returns-3)

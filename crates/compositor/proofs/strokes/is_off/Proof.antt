@@ -9,14 +9,14 @@ use Rattle.compositor.proofs.strokes.is_off.Lts as lts
 add-top : tie.Need-add-top
 add-top c = search needs
 
-cast-below : tie.Need-cast-below
-cast-below c = search needs
+cast-descent : tie.Need-cast-descent
+cast-descent c = search needs
 
-cast-below-2 : tie.Need-cast-below-2
-cast-below-2 c = search needs
+cast-descent-2 : tie.Need-cast-descent-2
+cast-descent-2 c = search needs
 
-sub-below : tie.Need-sub-below
-sub-below c = search needs
+sub-descent : tie.Need-sub-descent
+sub-descent c = search needs
 
 add-if1 : tie.Need-add-if1
 add-if1 c = search needs
@@ -49,9 +49,9 @@ is-off-spec =
     tie.close
     (tie.spec
     add-top
-    cast-below
-    cast-below-2
-    sub-below
+    cast-descent
+    cast-descent-2
+    sub-descent
     add-if1
     add-if1-2
     returns

@@ -55,7 +55,7 @@ returns c =
     let outline = c .before .before .before .outline .ensures in
     let off = rw (outline .0) at (sym (c .before .before .is-off .ensures) ∙ c .before .if1 .taken) in
     rw (c .past .ensures)
-    (missing (a .rows) (a .y) (outlineOf (a .s)) (s .pre .5) (omega arith) off _ _ _ (strokes-are (c .before .before .before .before)) (line-around (a .s) _ (a .y) _))
+    (missing (a .rows) (a .y) (a .y) (outlineOf (a .s)) (s .pre .5) (omega arith) off _ _ _ (strokes-are (c .before .before .before .before)) (line-around (a .s) _ (a .y) _))
 
 misses-requires : tie.Need-misses-requires
 misses-requires c κs = search needs
