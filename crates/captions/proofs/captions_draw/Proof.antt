@@ -12,7 +12,9 @@ drawn : (q : tie.After-render-into) →
     Drawn
     (settingsOf (a .width) (a .height) (a .default-color) (a .outline-color) (a .line-height) (a .bottom-margin) (a .outline) (a .alignment))
     (a .tape .now) (a .workspace .now) (q .render-into .last .1 .1 .0) (a .picture .now) (q .render-into .last .1 .1 .1 .0) (q .render-into .result)
-drawn q = rw (q .before .before .before .settings .ensures) at (q .render-into .ensures)
+drawn q =
+    let after-settings = q .before .before .before in
+    rw (after-settings .settings .ensures) at (q .render-into .ensures)
 
 settings-requires : tie.Need-settings-requires
 settings-requires c κs = search needs
@@ -21,7 +23,9 @@ render-into-requires : tie.Need-render-into-requires
 render-into-requires c κs = search needs
 
 packed-requires : tie.Need-packed-requires
-packed-requires c κs = draw-packs (drawn (c .before .before .before .before)) .near
+packed-requires c κs =
+    let after-render-into = c .before .before .before .before in
+    draw-packs (drawn after-render-into) .near
 
 same-length : tie.Need-same-length
 same-length c = search needs
@@ -31,7 +35,8 @@ same-length-2 c = search needs
 
 returns : tie.Need-returns
 returns c =
-    let d = drawn (c .before .before .before .before .before) in
+    let after-render-into = c .before .before .before .before .before in
+    let d = drawn after-render-into in
     record { answers = c .packed .ensures ∙ draw-packs d .is; paints = d .paints; leaves = d .leaves }
 
 pub captions-draw-spec : {M : Type 1} → statement M

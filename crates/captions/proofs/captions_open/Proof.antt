@@ -12,7 +12,9 @@ opened : (q : tie.After-open) →
     Opened
     (settingsOf (a .width) (a .height) (a .default-color) (a .outline-color) (a .line-height) (a .bottom-margin) (a .outline) (a .alignment))
     (a .tape .now) (a .workspace .now) (q .«open» .last .1 .1 .0) (a .picture .now) (q .«open» .last .1 .1 .1 .0) (a .stripe-height) (q .«open» .result)
-opened q = rw (q .before .before .before .settings .ensures) at (q .«open» .ensures)
+opened q =
+    let after-settings = q .before .before .before in
+    rw (after-settings .settings .ensures) at (q .«open» .ensures)
 
 settings-requires : tie.Need-settings-requires
 settings-requires c κs = search needs
@@ -24,7 +26,9 @@ words-of-requires : tie.Need-words-of-requires
 words-of-requires c κs = search needs
 
 packed-requires : tie.Need-packed-requires
-packed-requires c κs = open-packs (opened (c .before .before .before .before .before .before)) .near
+packed-requires c κs =
+    let after-open = c .before .before .before .before .before .before in
+    open-packs (opened after-open) .near
 
 same-length : tie.Need-same-length
 same-length c = search needs
@@ -34,7 +38,8 @@ same-length-2 c = search needs
 
 returns : tie.Need-returns
 returns c =
-    let d = opened (c .before .before .before .before .before .before .before) in
+    let after-open = c .before .before .before .before .before .before .before in
+    let d = opened after-open in
     record {
       answers = c .packed .ensures ∙ open-packs d .is;
       gives = c .before .words-of .ensures ∙ ap wordsOf (d .gives);

@@ -13,7 +13,10 @@ worked : (q : tie.After-work) →
     (settingsOf (a .width) (a .height) (a .default-color) (a .outline-color) (a .line-height) (a .bottom-margin) (a .outline) (a .alignment))
     (a .tape .now) (a .workspace .now) (q .work .last .1 .1 .0) (a .picture .now) (q .work .last .1 .1 .1 .0)
     (recordOf (a .«record» .now)) (a .stripe) (a .budget) (q .work .result)
-worked q = rw (q .before .before .before .before .before .settings .ensures, q .before .before .before .record-of .ensures) at (q .work .ensures)
+worked q =
+    let after-record-of = q .before .before .before in
+    let after-settings = after-record-of .before .before in
+    rw (after-settings .settings .ensures, after-record-of .record-of .ensures) at (q .work .ensures)
 
 settings-requires : tie.Need-settings-requires
 settings-requires c κs = search needs
@@ -28,7 +31,9 @@ words-of-requires : tie.Need-words-of-requires
 words-of-requires c κs = search needs
 
 packed-requires : tie.Need-packed-requires
-packed-requires c κs = work-packs (worked (c .before .before .before .before .before .before)) .near
+packed-requires c κs =
+    let after-work = c .before .before .before .before .before .before in
+    work-packs (worked after-work) .near
 
 same-length : tie.Need-same-length
 same-length c = search needs
@@ -38,7 +43,8 @@ same-length-2 c = search needs
 
 returns : tie.Need-returns
 returns c =
-    let d = worked (c .before .before .before .before .before .before .before) in
+    let after-work = c .before .before .before .before .before .before .before in
+    let d = worked after-work in
     record {
       answers = c .packed .ensures ∙ work-packs d .is;
       gives = c .before .words-of .ensures ∙ ap wordsOf (d .gives);

@@ -9,7 +9,9 @@ enum-known-answer-2 : tie.Need-enum-known-answer-2
 enum-known-answer-2 c = search needs
 
 refusal-requires : tie.Need-refusal-requires
-refusal-requires c κs = rw (c .before .answer2 .given .1) at (c .before .before .before .pre)
+refusal-requires c κs =
+    let start = c .before .before .before in
+    rw (c .before .answer2 .given .1) at (start .pre)
 
 returns : tie.Need-returns
 returns c = search needs

@@ -43,8 +43,9 @@ loop-less c = omega arith
 
 loop-again : tie.Need-loop-again Inv-loop μ-loop
 loop-again c =
+    let start = c .before .before .before in
     let l = c .before .before .loop in
-    let job = c .before .before .before .args .t1 in
+    let job = start .args .t1 in
     let h = c .before .loop-test .taken in
     let all : length (job .counters) ≡ 64 = search needs in (
       omega arith,

@@ -7,10 +7,14 @@ use Rattle.compositor.proofs.draw_cue.Statement.{statement}
 use Rattle.compositor.proofs.draw_cue.Tie as tie
 
 picture-bytes-requires : tie.Need-picture-bytes-requires
-picture-bytes-requires c κs = c .before .before .before .pre .0
+picture-bytes-requires c κs =
+    let start = c .before .before .before in
+    start .pre .0
 
 clear-requires : tie.Need-clear-requires
-clear-requires c κs = rw (c .picture-bytes .ensures) (c .before .before .before .before .pre .1)
+clear-requires c κs =
+    let start = c .before .before .before .before in
+    rw (c .picture-bytes .ensures) (start .pre .1)
 
 cast-t11 : tie.Need-cast-t11
 cast-t11 c = search needs
@@ -20,11 +24,12 @@ cast-t12 c = search needs
 
 draw-lines-requires : tie.Need-draw-lines-requires
 draw-lines-requires c κs =
-    let s = c .before .before .before .before .before .before .before .before .before .before in
-    let range = s .pre .0 in
-    let fits = s .pre .1 in
-    let lined = s .pre .2 in
-    let long = c .before .before .before .before .before .clear .kept .0 in (
+    let after-clear = c .before .before .before .before .before in
+    let start = after-clear .before .before .before .before .before in
+    let range = start .pre .0 in
+    let fits = start .pre .1 in
+    let lined = start .pre .2 in
+    let long = after-clear .clear .kept .0 in (
       record { narrow = range .narrow; short = range .low; high = omega arith; long = omega arith },
       lined .readable,
       range,
@@ -36,8 +41,11 @@ same-length c = search needs
 
 returns : tie.Need-returns
 returns c =
-    let a = c .before .before .before .before .before .before .before .before .before .before .before .before .before .args in
-    let cleared = rw (c .before .before .before .before .before .before .before .before .before .picture-bytes .ensures) at (c .before .before .before .before .before .before .before .before .clear .ensures) in
+    let after-clear = c .before .before .before .before .before .before .before .before in
+    let after-picture-bytes = after-clear .before in
+    let start = after-picture-bytes .before .before .before .before in
+    let a = start .args in
+    let cleared = rw (after-picture-bytes .picture-bytes .ensures) at (after-clear .clear .ensures) in
     c .before .before .draw-lines .ensures ∙ rw cleared (picture-drawn (a .s) (strokesAt (a .s) (a .ws .now) 0 0 (a .lines)) (a .total) (a .picture .now))
 
 pub draw-cue-spec : {M : Type 1} → statement M

@@ -35,11 +35,12 @@ column-limit-requires c κs = search needs
 
 wrap-runs-requires : tie.Need-wrap-runs-requires
 wrap-runs-requires c κs =
-    let q = c .before .before .before .before .before .before .before in
-    let a = letters-are (read q) (c .before .before .before .count .given .1) in
+    let after-count = c .before .before .before in
+    let after-read-tape = after-count .before .before .before .before in
+    let a = letters-are (read after-read-tape) (after-count .count .given .1) in
     let limit = c .column-limit .ensures in
     let most = limit .2 in
-    let n = q .read-tape .kept .1 .0 in
+    let n = after-read-tape .read-tape .kept .1 .0 in
     let room = a .room in
     (a .few, limit .1, omega arith, omega arith)
 
@@ -49,12 +50,15 @@ letter-strokes-requires c κs = search needs
 mul-t17 : tie.Need-mul-t17
 mul-t17 c =
     let after-wrap-runs = c .before .before .before .before in
-    let a = letters-are (read (c .before .before .before .before .before .before .before .before .before .before .before .before)) (c .before .before .before .before .before .before .before .before .count .given .1) in
+    let after-count = after-wrap-runs .before .before .before .before in
+    let after-read-tape = after-count .before .before .before .before in
+    let start = after-read-tape .before .before .before .before .before .before in
+    let a = letters-are (read after-read-tape) (after-count .count .given .1) in
     let few = a .few in
     let on-lines = after-wrap-runs .wrap-runs .ensures .1 in
     let n = after-wrap-runs .wrap-runs .result .letters in
     let each = ap (λ (m : ℕ). n * m) (c .before .letter-strokes .ensures .0) in
-    let small = total-small n (outlineOf (c .before .before .before .before .before .before .before .before .before .before .before .before .before .before .before .before .before .before .args .s)) (omega arith) (omega arith) in
+    let small = total-small n (outlineOf (start .args .s)) (omega arith) (omega arith) in
     omega arith
 
 enum-known-number : tie.Need-enum-known-number
@@ -67,21 +71,23 @@ returns : tie.Need-returns
 unfolding tapeStrokes
 returns c =
     let after-wrap-runs = c .before .before .before .before in
-    let q = c .before .before .before .before .before .before .before .before .before .before .before .before in
-    let s = c .before .before .before .before .before .before .before .before .before .before .before .before .before .before .before .before .before .before in
-    let a = letters-are (read q) (c .before .before .before .before .before .before .before .before .count .given .1) in
+    let after-column-limit = after-wrap-runs .before in
+    let after-count = after-column-limit .before .before .before in
+    let after-read-tape = after-count .before .before .before .before in
+    let start = after-read-tape .before .before .before .before .before .before in
+    let a = letters-are (read after-read-tape) (after-count .count .given .1) in
     let w = after-wrap-runs .wrap-runs in
-    let limit = c .before .before .before .before .before .column-limit .ensures .0 in
+    let limit = after-column-limit .column-limit .ensures .0 in
     let each = c .before .letter-strokes .ensures .0 in
     let laid = w .ensures .2 (a .letters) (a .count) (letters-held a) in
     let few = a .few in
     let room = a .room in
-    let n = q .read-tape .kept .1 .0 in
+    let n = after-read-tape .read-tape .kept .1 .0 in
     let m = w .kept .0 in
     let lines = w .ensures .0 in
     let on-lines = w .ensures .1 in (
-      lined laid (s .args .s) limit _ each (omega arith) (omega arith) (omega arith),
-      ap (onAccepted (drawing (s .args .s))) (sym (read-is _ _ _ (s .pre .1) (s .pre .2)) ∙ a .means) ∙ rw (strokes-are laid (s .args .s) limit),
+      lined laid (start .args .s) limit _ each (omega arith) (omega arith) (omega arith),
+      ap (onAccepted (drawing (start .args .s))) (sym (read-is _ _ _ (start .pre .1) (start .pre .2)) ∙ a .means) ∙ rw (strokes-are laid (start .args .s) limit),
     )
 
 same-length-2 : tie.Need-same-length-2
@@ -90,10 +96,10 @@ same-length-2 c = search needs
 returns-2 : tie.Need-returns-2
 unfolding tapeStrokes
 returns-2 c =
-    let q = c .before .before .before .before .before in
-    let s = c .before .before .before .before .before .before .before .before .before .before .before in
-    let r = refusal-is (read q) (c .before .number .given .1) in (
-      ap (onAccepted (drawing (s .args .s))) (sym (read-is _ _ _ (s .pre .1) (s .pre .2)) ∙ r .means),
+    let after-read-tape = c .before .before .before .before .before in
+    let start = after-read-tape .before .before .before .before .before .before in
+    let r = refusal-is (read after-read-tape) (c .before .number .given .1) in (
+      ap (onAccepted (drawing (start .args .s))) (sym (read-is _ _ _ (start .pre .1) (start .pre .2)) ∙ r .means),
       λ k. r .keeps (keeps-least _ k),
     )
 

@@ -22,10 +22,11 @@ read : (q : tie.After-read-cue) →
     CueRead (a .s) (drawCall (a .s) (length (a .ws .now)) (length (a .picture .now)) (a .tape .now)) (a .ws .now) (q .read-cue .last .1 .1 .0) (q .read-cue .result)
 unfolding drawCall
 read q =
-    let else1 = q .before .before in
-    let a = q .before .before .before .before .before .before .before .args in
+    let after-station-fault = q .before .before .before in
+    let start = after-station-fault .before .before .before .before in
+    let a = start .args in
     let r = q .read-cue in
-    cue-goes-on (else1 .before .station-fault .ensures) (a .s) (tapeStrokes (a .s) (a .tape .now)) (a .ws .now) (r .last .1 .1 .0) (r .result) (none else1)
+    cue-goes-on (after-station-fault .station-fault .ensures) (a .s) (tapeStrokes (a .s) (a .tape .now)) (a .ws .now) (r .last .1 .1 .0) (r .result) (none (q .before .before))
     (r .ensures)
 
 station-fault-requires : tie.Need-station-fault-requires
@@ -34,7 +35,8 @@ station-fault-requires c κs = search needs
 returns : tie.Need-returns
 unfolding drawCall
 returns c =
-    let a = c .before .before .before .before .before .args in
+    let start = c .before .before .before .before .before in
+    let a = start .args in
     let r = cue-stopped (c .before .station-fault .ensures) (a .s) (tapeStrokes (a .s) (a .tape .now)) (c .if1 .taken) in
     stopped _ _ _ _ _ (r .0) (r .1)
 
@@ -46,9 +48,11 @@ enum-known-lines c = search needs
 
 draw-cue-requires : tie.Need-draw-cue-requires
 draw-cue-requires c κs =
-    let q = c .before .before .before .before .before .before .before in
-    let r = rw (c .before .before .before .lines .given .1) at (read q) in
-    let a = fine (q .before .before) in
+    let after-lines = c .before .before .before in
+    let after-read-cue = after-lines .before .before .before .before in
+    let else1 = after-read-cue .before .before in
+    let r = rw (after-lines .lines .given .1) at (read after-read-cue) in
+    let a = fine else1 in
     (a .range, a .fits, r .0)
 
 enum-known-number : tie.Need-enum-known-number
@@ -62,18 +66,18 @@ same-length-2 c = search needs
 
 returns-2 : tie.Need-returns-2
 returns-2 c =
-    let after-draw-cue = c .before .before in
-    let q = c .before .before .before .before .before .before .before .before .before .before in
-    let r = rw (c .before .before .before .before .before .before .lines .given .1) at (read q) in
-    drew _ _ _ _ _ _ (r .1) (r .0 .total-is) (after-draw-cue .draw-cue .ensures)
+    let after-lines = c .before .before .before .before .before .before in
+    let after-read-cue = after-lines .before .before .before .before in
+    let r = rw (after-lines .lines .given .1) at (read after-read-cue) in
+    drew _ _ _ _ _ _ (r .1) (r .0 .total-is) (c .before .before .draw-cue .ensures)
 
 same-length-3 : tie.Need-same-length-3
 same-length-3 c = search needs
 
 returns-3 : tie.Need-returns-3
 returns-3 c =
-    let q = c .before .before .before .before .before in
-    let r = rw (c .before .number .given .1) at (read q) in
+    let after-read-cue = c .before .before .before .before .before in
+    let r = rw (c .before .number .given .1) at (read after-read-cue) in
     stopped _ _ _ _ _ (r .0) (r .1)
 
 pub render-into-spec : {M : Type 1} → statement M

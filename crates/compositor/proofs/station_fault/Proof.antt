@@ -21,7 +21,8 @@ is-out-of-range-requires c κs = search needs
 
 returns : tie.Need-returns
 returns c =
-    let a = c .before .before .before .args in
+    let start = c .before .before .before in
+    let a = start .args in
     out-of-range (a .s) (a .tape .now) (a .room) (a .size) (sym (c .before .is-out-of-range .ensures) ∙ c .if1 .taken)
 
 picture-bytes-requires : tie.Need-picture-bytes-requires
@@ -29,30 +30,30 @@ picture-bytes-requires c κs = in-range _ (range c)
 
 returns-2 : tie.Need-returns-2
 returns-2 c =
-    let else1 = c .before .before in
-    let a = else1 .before .before .before .args in
-    short-picture (a .s) (a .tape .now) (a .room) (a .size) (range else1) (rw (c .before .picture-bytes .ensures) at (c .if2 .taken))
+    let start = c .before .before .before .before .before in
+    let a = start .args in
+    short-picture (a .s) (a .tape .now) (a .room) (a .size) (range (c .before .before)) (rw (c .before .picture-bytes .ensures) at (c .if2 .taken))
 
 returns-3 : tie.Need-returns-3
 returns-3 c =
-    let else2 = c .before in
-    let else1 = else2 .before .before in
-    let a = else1 .before .before .before .args in
-    long-tape (a .s) (a .tape .now) (a .room) (a .size) (range else1) (fits else2) (c .if3 .taken)
+    let else1 = c .before .before .before in
+    let start = else1 .before .before .before in
+    let a = start .args in
+    long-tape (a .s) (a .tape .now) (a .room) (a .size) (range else1) (fits (c .before)) (c .if3 .taken)
 
 returns-4 : tie.Need-returns-4
 returns-4 c =
-    let else2 = c .before .before in
-    let else1 = else2 .before .before in
-    let a = else1 .before .before .before .args in
-    short-workspace (a .s) (a .tape .now) (a .room) (a .size) (range else1) (fits else2) (c .before .if3 .left) (c .if4 .taken)
+    let else1 = c .before .before .before .before in
+    let start = else1 .before .before .before in
+    let a = start .args in
+    short-workspace (a .s) (a .tape .now) (a .room) (a .size) (range else1) (fits (c .before .before)) (c .before .if3 .left) (c .if4 .taken)
 
 returns-5 : tie.Need-returns-5
 returns-5 c =
-    let else2 = c .before .before in
-    let else1 = else2 .before .before in
-    let a = else1 .before .before .before .args in
-    all-fine (a .s) (a .tape .now) (a .room) (a .size) (range else1) (fits else2) (c .before .if3 .left) (c .if4 .left)
+    let else1 = c .before .before .before .before in
+    let start = else1 .before .before .before in
+    let a = start .args in
+    all-fine (a .s) (a .tape .now) (a .room) (a .size) (range else1) (fits (c .before .before)) (c .before .if3 .left) (c .if4 .left)
 
 pub station-fault-spec : {M : Type 1} → statement M
 station-fault-spec =

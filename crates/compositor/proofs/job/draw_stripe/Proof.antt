@@ -15,11 +15,11 @@ within : (c : tie.After-struct-known2) →
     let end = firstRow (a .stripe-height) (a .k) * rowBytes (a .s) + c .before .least .result * rowBytes (a .s) in
     (end ≤ length (a .picture .now)) × (end ≤ 67108864)
 within c =
-    let s = c .before .before .before .before .before in
-    let a = s .args in
-    let fits = s .pre .1 in
-    let small = picture-small (a .s) (s .pre .0) in
-    let end = rw (← c .before .least .ensures) at (stripe-fits (a .s) (a .stripe-height) (a .k) (s .pre .5) (s .pre .4)) in
+    let start = c .before .before .before .before .before in
+    let a = start .args in
+    let fits = start .pre .1 in
+    let small = picture-small (a .s) (start .pre .0) in
+    let end = rw (← c .before .least .ensures) at (stripe-fits (a .s) (a .stripe-height) (a .k) (start .pre .5) (start .pre .4)) in
     (omega arith, omega arith)
 
 mul-first : tie.Need-mul-first
@@ -63,12 +63,12 @@ part-draw-lines-end c = within c .0
 
 draw-lines-requires : tie.Need-draw-lines-requires
 draw-lines-requires c κs =
-    let s = c .before .before .before .before .before .before in
-    let a = s .args in
+    let start = c .before .before .before .before .before .before in
+    let a = start .args in
     let end = within (c .before) .0 in
-    let range = s .pre .0 in
+    let range = start .pre .0 in
     let count = c .before .before .least .ensures in
-    let there = s .pre .4 in
+    let there = start .pre .4 in
     let from : ℕ = firstRow (a .stripe-height) (a .k) * rowBytes (a .s) in
     let left = length-drop from (a .picture .now) in (
       record {
@@ -77,9 +77,9 @@ draw-lines-requires c κs =
         high = omega (arith, range .low);
         long = rw length-take (omega arith);
       },
-      s .pre .2,
+      start .pre .2,
       range,
-      s .pre .3,
+      start .pre .3,
     )
 
 same-length : tie.Need-same-length
@@ -87,12 +87,13 @@ same-length c = search needs
 
 returns : tie.Need-returns
 returns c =
-    let s = c .before .before .before .before .before .before .before .before .before in
-    let a = s .args in
+    let after-least = c .before .before .before .before .before in
+    let start = after-least .before .before .before .before in
+    let a = start .args in
     let from : ℕ = firstRow (a .stripe-height) (a .k) * rowBytes (a .s) in
-    let count = c .before .before .before .before .before .least in
+    let count = after-least .least in
     let bytes : ℕ = from + count .result * rowBytes (a .s) - from in
-    stripe-is (a .s) (a .stripe-height) (a .k) (s .pre .5) (s .pre .4) _ (a .picture .now) _ (count .result) bytes (s .pre .1) (count .ensures) (omega arith)
+    stripe-is (a .s) (a .stripe-height) (a .k) (start .pre .5) (start .pre .4) _ (a .picture .now) _ (count .result) bytes (start .pre .1) (count .ensures) (omega arith)
     (c .before .before .draw-lines .ensures)
 
 pub draw-stripe-spec : {M : Type 1} → statement M

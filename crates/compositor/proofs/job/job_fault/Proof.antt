@@ -14,12 +14,14 @@ station-fault-requires c κs = search needs
 
 returns : tie.Need-returns
 returns c =
-    let a = c .before .before .before .args in
+    let start = c .before .before .before in
+    let a = start .args in
     station-first (a .s) (a .tape .now) (a .room) (a .size) (a .stripe-height) (c .before .station-fault .ensures) (c .if1 .taken)
 
 returns-2 : tie.Need-returns-2
 returns-2 c =
-    let a = c .before .before .before .before .args in
+    let start = c .before .before .before .before in
+    let a = start .args in
     no-height (a .s) (a .tape .now) (a .room) (a .size) (a .stripe-height) (c .before .before .station-fault .ensures) (none (c .before)) (c .if2 .taken)
 
 has-stripe-requires : tie.Need-has-stripe-requires
@@ -27,14 +29,20 @@ has-stripe-requires c κs = search needs
 
 returns-3 : tie.Need-returns-3
 returns-3 c =
-    let a = c .before .before .before .before .before .before .args in
-    many-stripes (a .s) (a .tape .now) (a .room) (a .size) (a .stripe-height) (c .before .before .before .before .station-fault .ensures) (none (c .before .before .before)) (c .before .before .if2 .left)
+    let else1 = c .before .before .before in
+    let after-station-fault = else1 .before in
+    let start = after-station-fault .before .before in
+    let a = start .args in
+    many-stripes (a .s) (a .tape .now) (a .room) (a .size) (a .stripe-height) (after-station-fault .station-fault .ensures) (none else1) (c .before .before .if2 .left)
     (sym (c .before .has-stripe .ensures) ∙ c .if3 .taken)
 
 returns-4 : tie.Need-returns-4
 returns-4 c =
-    let a = c .before .before .before .before .before .before .args in
-    stripes-fit (a .s) (a .tape .now) (a .room) (a .size) (a .stripe-height) (c .before .before .before .before .station-fault .ensures) (none (c .before .before .before)) (c .before .before .if2 .left)
+    let else1 = c .before .before .before in
+    let after-station-fault = else1 .before in
+    let start = after-station-fault .before .before in
+    let a = start .args in
+    stripes-fit (a .s) (a .tape .now) (a .room) (a .size) (a .stripe-height) (after-station-fault .station-fault .ensures) (none else1) (c .before .before .if2 .left)
     (sym (c .before .has-stripe .ensures) ∙ c .if3 .left)
 
 pub job-fault-spec : {M : Type 1} → statement M

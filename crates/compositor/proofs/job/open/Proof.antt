@@ -12,12 +12,15 @@ enum-known-total c = search needs
 
 picture-bytes-requires : tie.Need-picture-bytes-requires
 picture-bytes-requires c κs =
-    let r = rw (c .before .total .given .1) at (c .before .before .before .before .before .read-job .ensures) in
+    let after-read-job = c .before .before .before .before .before in
+    let r = rw (c .before .total .given .1) at (after-read-job .read-job .ensures) in
     open-admitted _ _ _ _ _ (r .1) .admitted .range
 
 clear-requires : tie.Need-clear-requires
 clear-requires c κs =
-    let r = rw (c .before .before .before .total .given .1) at (c .before .before .before .before .before .before .before .read-job .ensures) in
+    let after-total = c .before .before .before in
+    let after-read-job = after-total .before .before .before .before in
+    let r = rw (after-total .total .given .1) at (after-read-job .read-job .ensures) in
     rw (c .before .picture-bytes .ensures) (open-admitted _ _ _ _ _ (r .1) .admitted .fits)
 
 new-requires : tie.Need-new-requires
@@ -37,16 +40,21 @@ same-length-2 c = search needs
 
 returns : tie.Need-returns
 returns c =
-    let r = rw (c .before .before .before .before .before .before .before .total .given .1) at (c .before .before .before .before .before .before .before .before .before .before .before .read-job .ensures) in
+    let after-clear = c .before .before .before in
+    let after-picture-bytes = after-clear .before .before in
+    let after-total = after-picture-bytes .before .before in
+    let after-read-job = after-total .before .before .before .before in
+    let r = rw (after-total .total .given .1) at (after-read-job .read-job .ensures) in
     rw (c .new .ensures)
-    (did-open _ _ _ _ _ _ _ (r .1) (r .0 .total-is) (rw (c .before .before .before .before .before .picture-bytes .ensures) at (c .before .before .before .clear .ensures)))
+    (did-open _ _ _ _ _ _ _ (r .1) (r .0 .total-is) (rw (after-picture-bytes .picture-bytes .ensures) at (after-clear .clear .ensures)))
 
 same-length-3 : tie.Need-same-length-3
 same-length-3 c = search needs
 
 returns-2 : tie.Need-returns-2
 returns-2 c =
-    let r = rw (c .before .before .number .given .1) at (c .before .before .before .before .before .before .read-job .ensures) in
+    let after-read-job = c .before .before .before .before .before .before in
+    let r = rw (c .before .before .number .given .1) at (after-read-job .read-job .ensures) in
     rw (c .new2 .ensures) (not-opened _ _ _ _ _ _ (r .0) (r .1))
 
 pub open-spec : {M : Type 1} → statement M

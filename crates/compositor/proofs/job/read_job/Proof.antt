@@ -22,7 +22,8 @@ job-fault-requires c κs = search needs
 returns : tie.Need-returns
 unfolding openCall
 returns c =
-    let a = c .before .before .before .before .args in
+    let start = c .before .before .before .before in
+    let a = start .args in
     cue-stopped (c .before .job-fault .ensures) (a .s) (tapeStrokes (a .s) (a .tape .now)) (c .if1 .taken)
 
 read-cue-requires : tie.Need-read-cue-requires
@@ -35,9 +36,11 @@ returns-2 : tie.Need-returns-2
 unfolding openCall
 returns-2 c =
     let else1 = c .before .before .before .before in
-    let a = else1 .before .before .before .before .args in
+    let after-job-fault = else1 .before in
+    let start = after-job-fault .before .before .before in
+    let a = start .args in
     let r = c .before .before .read-cue in
-    cue-goes-on (else1 .before .job-fault .ensures) (a .s) (tapeStrokes (a .s) (a .tape .now)) (a .ws .now) (r .last .1 .1 .0) (r .result) (none else1)
+    cue-goes-on (after-job-fault .job-fault .ensures) (a .s) (tapeStrokes (a .s) (a .tape .now)) (a .ws .now) (r .last .1 .1 .0) (r .result) (none else1)
     (r .ensures)
 
 pub read-job-spec : {M : Type 1} → statement M

@@ -12,7 +12,9 @@ enum-known-lines c = search needs
 
 work-stripe-requires : tie.Need-work-stripe-requires
 work-stripe-requires c κs =
-    let r = rw (c .before .before .before .lines .given .1) at (c .before .before .before .before .before .before .before .read-job .ensures) in
+    let after-lines = c .before .before .before in
+    let after-read-job = after-lines .before .before .before .before in
+    let r = rw (after-lines .lines .given .1) at (after-read-job .read-job .ensures) in
     let a = open-admitted _ _ _ _ _ (r .1) in
     record { range = a .admitted .range; fits = a .admitted .fits; stripes = a .stripes; lined = r .0 }
 
@@ -27,7 +29,9 @@ same-length-2 c = search needs
 
 returns : tie.Need-returns
 returns c =
-    let r = rw (c .before .before .before .before .before .before .lines .given .1) at (c .before .before .before .before .before .before .before .before .before .before .read-job .ensures) in
+    let after-lines = c .before .before .before .before .before .before in
+    let after-read-job = after-lines .before .before .before .before in
+    let r = rw (after-lines .lines .given .1) at (after-read-job .read-job .ensures) in
     worked-on _ _ _ _ _ _ _ _ (r .1) (c .before .before .work-stripe .ensures)
 
 same-length-3 : tie.Need-same-length-3
@@ -35,7 +39,8 @@ same-length-3 c = search needs
 
 returns-2 : tie.Need-returns-2
 returns-2 c =
-    let r = rw (c .before .number .given .1) at (c .before .before .before .before .before .read-job .ensures) in
+    let after-read-job = c .before .before .before .before .before in
+    let r = rw (c .before .number .given .1) at (after-read-job .read-job .ensures) in
     not-worked _ _ _ _ _ _ _ _ (r .0) (r .1)
 
 pub work-spec : {M : Type 1} → statement M

@@ -28,9 +28,10 @@ loop-holds c =
 
 letters-on-requires : tie.Need-letters-on-requires Inv-loop μ-loop
 letters-on-requires c κs =
+    let start = c .before .before .before .before in
     let h = c .loop-test .taken in
-    let few = c .before .before .before .before .pre .4 in
-    let room = c .before .before .before .before .pre .2 .room in
+    let few = start .pre .4 in
+    let room = start .pre .2 .room in
     omega arith
 
 sub-baseline : tie.Need-sub-baseline Inv-loop μ-loop
@@ -48,54 +49,62 @@ place-line-requires : tie.Need-place-line-requires Inv-loop μ-loop
 place-line-requires c κs =
     let in-loop = c .before .before .before in
     let at-loop = in-loop .before in
-    let s = at-loop .before .before .before in
+    let start = at-loop .before .before .before in
     let l = at-loop .loop in
     let h = in-loop .loop-test .taken in
     let n = c .before .before .letters-on .ensures in
     let y = c .before .baseline .ensures in
-    let on = letters-turn (s .args .ws .now) (s .args .lines) (l .i) h in
+    let on = letters-turn (start .args .ws .now) (start .args .lines) (l .i) h in
     let sum = l .inv .1 in
-    let few = s .pre .4 in
-    let fits = subst (λ (n : ℕ). Lent n (s .args .rows)) (sym (l .inv .2)) (s .pre .0) in
-    (fits, s .pre .1, fewer _ (omega arith) (s .pre .2), s .pre .3, omega arith, y .1, y .2)
+    let few = start .pre .4 in
+    let fits = subst (λ (n : ℕ). Lent n (start .args .rows)) (sym (l .inv .2)) (start .pre .0) in
+    (fits, start .pre .1, fewer _ (omega arith) (start .pre .2), start .pre .3, omega arith, y .1, y .2)
 
 add-first : tie.Need-add-first Inv-loop μ-loop
 add-first c =
-    let in-loop = c .before .before .before .before .before .before in
+    let after-letters-on = c .before .before .before .before .before in
+    let in-loop = after-letters-on .before in
     let at-loop = in-loop .before in
-    let s = at-loop .before .before .before in
+    let start = at-loop .before .before .before in
     let l = at-loop .loop in
     let h = in-loop .loop-test .taken in
-    let n = c .before .before .before .before .before .letters-on .ensures in
-    let on = letters-turn (s .args .ws .now) (s .args .lines) (l .i) h in
+    let n = after-letters-on .letters-on .ensures in
+    let on = letters-turn (start .args .ws .now) (start .args .lines) (l .i) h in
     let sum = l .inv .1 in
-    let few = s .pre .2 .few in
+    let few = start .pre .2 .few in
     omega arith
 
 add-i : tie.Need-add-i Inv-loop μ-loop
-add-i c = let few = c .before .before .before .before .before .before .before .before .before .before .pre .4 in let h = c .before .before .before .before .before .before .loop-test .taken in omega arith
+add-i c =
+    let in-loop = c .before .before .before .before .before .before in
+    let start = in-loop .before .before .before .before in
+    let few = start .pre .4 in let h = in-loop .loop-test .taken in omega arith
 
 loop-less : tie.Need-loop-less Inv-loop μ-loop
-loop-less c = let h = c .before .before .before .before .before .before .loop-test .taken in omega arith
+loop-less c =
+    let in-loop = c .before .before .before .before .before .before in
+    let h = in-loop .loop-test .taken in omega arith
 
 loop-again : tie.Need-loop-again Inv-loop μ-loop
 loop-again c =
-    let in-loop = c .before .before .before .before .before .before in
+    let after-baseline = c .before .before .before .before in
+    let after-letters-on = after-baseline .before in
+    let in-loop = after-letters-on .before in
     let at-loop = in-loop .before in
-    let s = at-loop .before .before .before in
+    let start = at-loop .before .before .before in
     let l = at-loop .loop in
     let h = in-loop .loop-test .taken in
-    let n = c .before .before .before .before .before .letters-on .ensures in
-    let y = c .before .before .before .before .baseline .ensures .0 in
+    let n = after-letters-on .letters-on .ensures in
+    let y = after-baseline .baseline .ensures .0 in
     let d = c .before .before .place-line in
-    let on = letters-turn (s .args .ws .now) (s .args .lines) (l .i) h in
+    let on = letters-turn (start .args .ws .now) (start .args .lines) (l .i) h in
     let sum = l .inv .1 in
-    let fits : Lent (length (l .part)) (s .args .rows) = subst (λ (n : ℕ). Lent n (s .args .rows)) (sym (l .inv .2)) (s .pre .0) in (
+    let fits : Lent (length (l .part)) (start .args .rows) = subst (λ (n : ℕ). Lent n (start .args .rows)) (sym (l .inv .2)) (start .pre .0) in (
       omega arith,
       omega arith,
       d .kept .0 ∙ l .inv .2,
       rw (n)
-          (turn _ _ _ _ _ _ (lines-turn (s .args .s) (s .args .ws .now) (s .args .lines) (l .first) (l .i) h) fits
+          (turn _ _ _ _ _ _ (lines-turn (start .args .s) (start .args .ws .now) (start .args .lines) (l .first) (l .i) h) fits
           (rw (n, y) at (d .ensures)) (l .inv .3)),
     )
 
@@ -104,7 +113,8 @@ same-length c = c .before .loop .inv .2
 
 returns : tie.Need-returns Inv-loop μ-loop
 returns c =
-    let a = c .before .before .before .before .args in
+    let start = c .before .before .before .before in
+    let a = start .args in
     let l = c .before .loop in
     done _ _ _ _ (lines-end (a .s) (a .ws .now) (a .lines) (l .first) (l .i) (c .loop-test .left)) (l .inv .3) .paints
 

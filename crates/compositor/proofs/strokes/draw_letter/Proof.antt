@@ -23,10 +23,12 @@ past-requires c κs = search needs
 
 returns : tie.Need-returns
 returns c =
-    let a = c .before .before .before .before .before .before .args in
+    let after-letter-strokes = c .before .before .before in
+    let start = after-letter-strokes .before .before .before in
+    let a = start .args in
     let l = letterAt (a .ws .now) (a .number) in
     rw (c .past .ensures)
-    (missed (a .rows) _ _ _ (c .before .before .before .letter-strokes .ensures .0 ∙ sym (letter-length (a .s) l (a .x) (a .y)))
+    (missed (a .rows) _ _ _ (after-letter-strokes .letter-strokes .ensures .0 ∙ sym (letter-length (a .s) l (a .x) (a .y)))
     (sym (c .before .before .misses .ensures) ∙ c .before .if1 .taken))
 
 code-requires : tie.Need-code-requires
@@ -52,19 +54,19 @@ outline-requires c κs = search needs
 
 draw-outline-requires : tie.Need-draw-outline-requires
 draw-outline-requires c κs =
-    let s = c .before .before .before .before .before .before .before .before .before .before .before .before .before .before .before .before in
-    (s .pre .0, s .pre .3, c .outline .ensures .1)
+    let start = c .before .before .before .before .before .before .before .before .before .before .before .before .before .before .before .before in
+    (start .pre .0, start .pre .3, c .outline .ensures .1)
 
 draw-stroke-requires : tie.Need-draw-stroke-requires
 draw-stroke-requires c κs =
     let after-draw-outline = c .before .before .before .before .before in
-    let s = c .before .before .before .before .before .before .before .before .before .before .before .before .before .before .before .before .before .before .before .before .before .before in
-    let near = s .pre .3 in
+    let start = after-draw-outline .before .before .before .before .before .before .before .before .before .before .before .before .before .before .before .before .before in
+    let near = start .pre .3 in
     let left = near .x-least in
     let right = near .x-most in
     let top = near .base-least in
     let bottom = near .base-most in
-    let fits = subst (λ (n : ℕ). Lent n (s .args .rows)) (sym (after-draw-outline .draw-outline .kept .0)) (s .pre .0) in
+    let fits = subst (λ (n : ℕ). Lent n (start .args .rows)) (sym (after-draw-outline .draw-outline .kept .0)) (start .pre .0) in
     (fits, omega arith, omega arith, omega arith, omega arith)
 
 same-length : tie.Need-same-length
@@ -73,8 +75,7 @@ same-length c = search needs
 returns-2 : tie.Need-returns-2
 unfolding glyphStrokes
 returns-2 c =
-    let after-draw-stroke = c .before .before in
-    let after-draw-outline = after-draw-stroke .before .before .before .before .before .before in
+    let after-draw-outline = c .before .before .before .before .before .before .before .before in
     let after-outline = after-draw-outline .before in
     let after-new2 = after-outline .before .before .before .before in
     let after-new = after-new2 .before in
@@ -82,7 +83,7 @@ returns-2 c =
     let after-glyph-of = after-offsets-of .before in
     let after-style = after-glyph-of .before in
     let after-code = after-style .before in
-    let s = after-code .before .before .before .before .before .before in
+    let start = after-code .before .before .before .before .before .before in
     let code = after-code .code in
     let style = after-style .style in
     let glyph = after-glyph-of .glyph-of in
@@ -91,15 +92,15 @@ returns-2 c =
     let own = after-new2 .new2 in
     let outline = after-outline .outline in
     let a = after-draw-outline .draw-outline in
-    let b = after-draw-stroke .draw-stroke in
-    let l = letterAt (s .args .ws .now) (s .args .number) in
-    let whole = letter-strokes (s .args .s) l (s .args .x) (s .args .y)
-    (glyph .ensures ∙ rw (style .ensures, code .ensures) (glyph-is (s .pre .1) (l .style .bold) (l .code)))
-    (offsets .ensures ∙ rw (style .ensures) (offsets-are (s .pre .1) (l .style .italic)))
+    let b = c .before .before .draw-stroke in
+    let l = letterAt (start .args .ws .now) (start .args .number) in
+    let whole = letter-strokes (start .args .s) l (start .args .x) (start .args .y)
+    (glyph .ensures ∙ rw (style .ensures, code .ensures) (glyph-is (start .pre .1) (l .style .bold) (l .code)))
+    (offsets .ensures ∙ rw (style .ensures) (offsets-are (start .pre .1) (l .style .italic)))
     (ap (λ (p : Pen). p .color) (around .ensures))
     (ap (λ (p : Pen). p .color) (own .ensures) ∙ rw (style .ensures) refl)
     (outline .ensures .0) in
-    same (s .args .rows) whole (then (s .args .rows) _ _ (s .pre .0) (a .ensures) (b .ensures))
+    same (start .args .rows) whole (then (start .args .rows) _ _ (start .pre .0) (a .ensures) (b .ensures))
 
 pub draw-letter-spec : {M : Type 1} → statement M
 draw-letter-spec =

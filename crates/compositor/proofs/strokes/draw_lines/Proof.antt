@@ -15,7 +15,8 @@ use Rattle.compositor.proofs.strokes.draw_lines.Tie as tie
 returns : tie.Need-returns
 unfolding strokesAt
 returns c =
-    let a = c .before .before .before .args in
+    let start = c .before .before .before in
+    let a = start .args in
     rw (c .if1 .taken) (nothing (a .rows) (a .window) (a .part .now) .paints)
 
 sub-baseline : tie.Need-sub-baseline
@@ -35,11 +36,13 @@ is-off-requires c κs = search needs
 
 returns-2 : tie.Need-returns-2
 returns-2 c =
-    let s = c .before .before .before .before .before .before .before .before in
-    let a = s .args in
+    let after-baseline2 = c .before .before .before in
+    let after-baseline = after-baseline2 .before in
+    let start = after-baseline .before .before .before .before in
+    let a = start .args in
     let o = c .before .before .outline .ensures in
-    let high = c .before .before .before .before .baseline .ensures in
-    let low = c .before .before .before .baseline2 .ensures .0 in
+    let high = after-baseline .baseline .ensures in
+    let low = after-baseline2 .baseline2 .ensures .0 in
     let off = rw (high .0, low, o .0) at (sym (c .before .is-off .ensures) ∙ c .if2 .taken) in
     missing (a .rows) _ _ (outlineOf (a .s)) (rw (high .0) at (high .1)) (omega arith) off _ (a .window) (a .part .now) refl
     (lines-around (a .s) (a .lines) (a .lines) 0 0 (a .ws .now) (omega arith))
@@ -79,7 +82,8 @@ draw-each-line-requires c κs =
     let after-default-bold = after-table2 .before in
     let after-table = after-default-bold .before in
     let after-default-regular = after-table .before in
-    let s = after-default-regular .before .before .before .before .before .before .before .before .before in (
+    let start = after-default-regular .before .before .before .before .before .before .before .before .before in
+    let s = start in (
       s .pre .0,
       record {
         regular-is = after-table .table .ensures ∙ ap (λ (f : BitmapFont). tableOf (f .bold)) (after-default-regular .default-regular .ensures);

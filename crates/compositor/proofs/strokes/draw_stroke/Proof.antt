@@ -26,8 +26,9 @@ returns-2 : tie.Need-returns-2
 returns-2 c =
     let after-draw-glyph-sheared = c .before .before .before in
     let else1 = after-draw-glyph-sheared .before .before in
+    let after-misses = else1 .before in
     rw (c .past2 .ensures, after-draw-glyph-sheared .draw-glyph-sheared .ensures)
-    (drawn _ _ _ _ (sym (else1 .before .misses .ensures) ∙ else1 .if1 .left))
+    (drawn _ _ _ _ (sym (after-misses .misses .ensures) ∙ else1 .if1 .left))
 
 pub draw-stroke-spec : {M : Type 1} → statement M
 draw-stroke-spec =

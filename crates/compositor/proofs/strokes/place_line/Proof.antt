@@ -22,7 +22,8 @@ strokes-are : (c : tie.After-letter-strokes) →
     a .letters * c .letter-strokes .result
     ≡ length (lineStrokes (a .s) (lineStart (a .s) (lineWidth (columnsOn (a .ws .now) (a .line)))) (a .y) (lettersAt (a .ws .now) (a .first) (a .letters)))
 strokes-are c =
-    let a = c .before .before .before .args in
+    let start = c .before .before .before in
+    let a = start .args in
     let ls = lettersAt (a .ws .now) (a .first) (a .letters) in
     ap₂ (λ (n m : ℕ). n * m) (sym (letters-length (a .ws .now) (a .first) (a .letters))) (c .letter-strokes .ensures .0)
     ∙ sym (line-length (a .s) _ (a .y) ls)
@@ -32,11 +33,11 @@ letter-strokes-requires c κs = search needs
 
 mul-strokes : tie.Need-mul-strokes
 mul-strokes c =
-    let s = c .before .before .before in
-    let n = s .args .letters in
-    let few = s .pre .2 .few in
+    let start = c .before .before .before in
+    let n = start .args .letters in
+    let few = start .pre .2 .few in
     let each = ap (λ (m : ℕ). n * m) (c .letter-strokes .ensures .0) in
-    let small = total-small n (outlineOf (s .args .s)) (omega arith) (omega arith) in
+    let small = total-small n (outlineOf (start .args .s)) (omega arith) (omega arith) in
     omega arith
 
 outline-requires : tie.Need-outline-requires
@@ -50,12 +51,14 @@ past-requires c κs = search needs
 
 returns : tie.Need-returns
 returns c =
-    let s = c .before .before .before .before .before .before .before in
-    let a = s .args in
-    let outline = c .before .before .before .outline .ensures in
+    let after-outline = c .before .before .before in
+    let after-letter-strokes = after-outline .before in
+    let start = after-letter-strokes .before .before .before in
+    let a = start .args in
+    let outline = after-outline .outline .ensures in
     let off = rw (outline .0) at (sym (c .before .before .is-off .ensures) ∙ c .before .if1 .taken) in
     rw (c .past .ensures)
-    (missing (a .rows) (a .y) (a .y) (outlineOf (a .s)) (s .pre .5) (omega arith) off _ _ _ (strokes-are (c .before .before .before .before)) (line-around (a .s) _ (a .y) _))
+    (missing (a .rows) (a .y) (a .y) (outlineOf (a .s)) (start .pre .5) (omega arith) off _ _ _ (strokes-are after-letter-strokes) (line-around (a .s) _ (a .y) _))
 
 misses-requires : tie.Need-misses-requires
 misses-requires c κs = search needs
@@ -65,8 +68,10 @@ past-requires-2 c κs = search needs
 
 returns-2 : tie.Need-returns-2
 returns-2 c =
-    let a = c .before .before .before .before .before .before .before .before .before .args in
-    rw (c .past2 .ensures) (missed (a .rows) _ _ _ (strokes-are (c .before .before .before .before .before .before)) (sym (c .before .before .misses .ensures) ∙ c .before .if2 .taken))
+    let after-letter-strokes = c .before .before .before .before .before .before in
+    let start = after-letter-strokes .before .before .before in
+    let a = start .args in
+    rw (c .past2 .ensures) (missed (a .rows) _ _ _ (strokes-are after-letter-strokes) (sym (c .before .before .misses .ensures) ∙ c .before .if2 .taken))
 
 measure-line-requires : tie.Need-measure-line-requires
 measure-line-requires c κs = search needs
@@ -76,17 +81,20 @@ line-start-requires c κs = search needs
 
 draw-line-requires : tie.Need-draw-line-requires
 draw-line-requires c κs =
-    let s = c .before .before .before .before .before .before .before .before .before .before .before in
+    let start = c .before .before .before .before .before .before .before .before .before .before .before in
     let x = c .before .line-start .ensures in
     let left = x .1 in
     let right = x .2 in
-    (s .pre .0, s .pre .1, s .pre .2, record { x-least = omega arith; x-most = omega arith; base-least = s .pre .5; base-most = s .pre .6 }, right)
+    (start .pre .0, start .pre .1, start .pre .2, record { x-least = omega arith; x-most = omega arith; base-least = start .pre .5; base-most = start .pre .6 }, right)
 
 same-length : tie.Need-same-length
 same-length c = search needs
 
 returns-3 : tie.Need-returns-3
-returns-3 c = rw (c .before .before .before .before .line-start .ensures .0, c .before .before .before .before .before .measure-line .ensures .0) at (c .before .before .draw-line .ensures)
+returns-3 c =
+    let after-line-start = c .before .before .before .before in
+    let after-measure-line = after-line-start .before in
+    rw (after-line-start .line-start .ensures .0, after-measure-line .measure-line .ensures .0) at (c .before .before .draw-line .ensures)
 
 pub place-line-spec : {M : Type 1} → statement M
 place-line-spec =

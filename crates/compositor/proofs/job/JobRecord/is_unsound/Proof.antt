@@ -35,8 +35,10 @@ cast-if1 c = search needs
 
 returns : tie.Need-returns Inv-loop μ-loop
 returns c =
-    let l = c .before .before .before .before .loop in
-    let a = c .before .before .before .before .before .args in
+    let at-loop = c .before .before .before .before in
+    let start = at-loop .before in
+    let l = at-loop .loop in
+    let a = start .args in
     let in-range : l .k < length (a .t1 .counters) = search needs in
     let most = c .before .before .most-counted .ensures in
     sym (l .inv .1 ∙ counters-turn (a .s) (a .t1 .«stripe_height») (a .total) (l .k) (a .t1 .counters) in-range ∙ rw (← most, lt-ltb _ _ (c .if1 .taken)))
@@ -49,8 +51,10 @@ loop-less c = omega arith
 
 loop-again : tie.Need-loop-again Inv-loop μ-loop
 loop-again c =
-    let l = c .before .before .before .before .loop in
-    let a = c .before .before .before .before .before .args in
+    let at-loop = c .before .before .before .before in
+    let start = at-loop .before in
+    let l = at-loop .loop in
+    let a = start .args in
     let in-range : l .k < length (a .t1 .counters) = search needs in
     let most = c .before .before .most-counted .ensures in (
       omega arith,
