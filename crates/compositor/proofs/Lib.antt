@@ -1,4 +1,4 @@
--- Document 01's cases; laws of strokes and of the definitions; what each step of the code comes to; what the calls come to.
+-- Document 01's cases; laws of strokes and of the definitions; what each step of the code comes to; what the calls come to; demand 3.
 pub mod Cases
 pub mod Painting
 pub mod Outlines
