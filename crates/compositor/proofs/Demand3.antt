@@ -9,8 +9,8 @@ use native.Mathlib.Decide.{ℕ-discrete}
 use native.Mathlib.Omega.{arith}
 use borrow.Author.Tests.{ltb-true, le-ltb, eq-eqb, ne-eqb}
 use lib.Dec.{eqb, ltb}
-use lib.ListN.{length, getD, take, drop, replicate, length-set, length-replicate, take-append-drop}
-use lib.Seq.{take-add, take-append-seam, getD-set-same, getD-set-other}
+use lib.ListN.{length, getD, take, drop, replicate, length-set, length-replicate}
+use lib.Seq.{take-add, getD-set-same, getD-set-other}
 use Rattle.tape.specs.Outcome.{Outcome, accepted, refused, refuseIf, andThen}
 use Rattle.tape.specs.Tape.{leastRoom}
 use Rattle.font.specs.Stroke.{eachRow}
@@ -31,7 +31,7 @@ use Rattle.compositor.specs.Ready.{JobAdmitted}
 use Rattle.compositor.proofs.Painting.{strokes-length, strokes-append}
 use Rattle.compositor.proofs.Cleared.{picture-drawn}
 use Rattle.compositor.proofs.Stripes.{stripe-low, stripe-there, all-sound}
-use Rattle.compositor.proofs.Jobs.{strokes-done}
+use Rattle.compositor.proofs.Jobs.{strokes-done, take-taken}
 use Rattle.compositor.proofs.Admitted.{open-admitted, open-strokes, open-again, draws}
 
 -- ---- numbers and lists
@@ -39,9 +39,6 @@ use Rattle.compositor.proofs.Admitted.{open-admitted, open-strokes, ope
 -- what holds of k, and of every other number, holds of every number
 one-and-others : (P : ℕ → Type 0) {k : ℕ} → P k → ((j : ℕ) → (j ≡ k → ⊥) → P j) → (j : ℕ) → P j
 one-and-others P {k} one others j = elim (ℕ-discrete j k) [ yes e ↦ subst P (sym e) one | no other ↦ others j other ]
-
-take-taken : {A : Type 0} (n : ℕ) (l : List A) → take (length (take n l)) l ≡ take n l
-take-taken n l = rw take-append-drop at (take-append-seam (take n l) (drop n l))
 
 zeros-at : (n j : ℕ) → getD {A = ℕ} (replicate n 0) j 0 ≡ 0
 zeros-at zero j = refl

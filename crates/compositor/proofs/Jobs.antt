@@ -3,11 +3,8 @@ use mathlib.Core.Path.{_≡_, _∙_, refl, sym, ap, subst}
 use mathlib.Core.Bool.{Bool, true, false, not, true≢false}
 use mathlib.Core.List.{List}
 use Prim.Native.Nat.{ℕ, _+_, _-_, _≤_, min}
-use native.Mathlib.Nat.{lt-of-not-le}
-use native.Mathlib.Decide.{decLe}
-use native.Mathlib.Omega.{arith}
-use lib.ListN.{length, take, drop, set, length-take, length-drop}
-use lib.Seq.{slice, length-take-le, take-all, take-add, drop-at}
+use lib.ListN.{length, take, drop, set, length-take, length-drop, take-append-drop}
+use lib.Seq.{slice, length-take-le, take-append-seam, take-add, drop-at}
 use Rattle.tape.specs.Outcome.{Outcome, accepted, refused, refuseIf, andThen}
 use Rattle.compositor.specs.declared.Settings.{Settings}
 use Rattle.compositor.specs.declared.Answer.{Answer}
@@ -53,16 +50,17 @@ module _ (s : Settings) (tape ws ws' picture : List ℕ) (h : ℕ) where
 pub strokes-done : (ts : List Stroke) (c n : ℕ) → length (take n (drop c ts)) ≡ min n (length ts - c)
 strokes-done ts c n = length-take n (drop c ts) ∙ ap (min n) (length-drop c ts)
 
+-- as many as were taken
+pub take-taken : {A : Type 0} (n : ℕ) (l : List A) → take (length (take n l)) l ≡ take n l
+take-taken n l = rw take-append-drop at (take-append-seam (take n l) (drop n l))
+
 -- they are those from number c up to c + m
 strokes-from : (ts : List Stroke) (c n m : ℕ) → c ≤ length ts → m ≡ min n (length ts - c) → slice c (c + m) ts ≡ take n (drop c ts)
 strokes-from ts c n m few e =
-    let long = length-drop c ts in
     ap (drop c) (take-add c m ts)
     ∙ drop-at (take c ts) (take m (drop c ts)) c (length-take-le c ts few)
-    ∙ elim (decLe n (length (drop c ts))) [
-      | yes h ↦ let same : m ≡ n = omega arith in ap (λ (k : ℕ). take k (drop c ts)) same
-      | no h ↦ let more = lt-of-not-le h in take-all m (drop c ts) (omega arith) ∙ sym (take-all n (drop c ts) (omega arith))
-    ]
+    ∙ ap (λ (k : ℕ). take k (drop c ts)) (e ∙ sym (strokes-done ts c n))
+    ∙ take-taken n (drop c ts)
 
 module _ (s : Settings) (ts : List Stroke) (picture : List ℕ) (job : JobRecord) (k n : ℕ) where
   stripe-comes-to : {picture' : List ℕ} (o : Outcome (List Stroke)) → stripeCall s job k n ts ≡ o → picture' ≡ workPicture s job k picture o
