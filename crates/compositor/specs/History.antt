@@ -1,5 +1,5 @@
 -- DEMAND 3: one claim about an accepted Open and every list of Work calls after it, refused ones among them. `Demand3`, at the end, is the
--- claim; it is proved in proofs/Demand3.antt. Calls are told by the records that are the contracts of Open and Work. Definitions only.
+-- claim, and it is proved. Calls are told by the records that are the contracts of Open and Work. Definitions only.
 use mathlib.Core.Path.{_≡_}
 use mathlib.Core.Bool.{false, cond}
 use mathlib.Core.List.{List, [], _∷_}

@@ -1,6 +1,6 @@
 -- STRIPES AND THE JOB RECORD: document 01, "Open and Work". Definitions only.
--- A picture is drawn in stripes, each of h rows, from the top; the last may be shorter. A job record (the struct `JobRecord` of src/job.rt)
--- holds h and a counter for each stripe: how many strokes its rows have had.
+-- A picture is drawn in stripes, each of h rows, from the top; the last may be shorter. A job record, `JobRecord`, holds
+-- h and a counter for each stripe: how many strokes its rows have had.
 use mathlib.Core.Bool.{Bool, false, cond, _||_}
 use mathlib.Core.List.{List, [], _∷_}
 use Prim.Native.Nat.{ℕ, suc, _*_, _/_}

@@ -5,3 +5,4 @@ pub mod Rounding
 pub mod Pixel
 pub mod Columns
 pub mod Rows
+pub mod Signs

@@ -6,7 +6,6 @@ use lib.Bits.{bitOr}
 use lib.Dec.{ltb}
 use lib.ListN.{getD}
 use Rattle.font.specs.Glyphs.{glyphs, missing}
-use Rattle.font.specs.declared.BitmapFont.{BitmapFont}
 
 -- a cell is 8 pixels wide and 16 high, and the base line lies 12 rows below its top, in both fonts
 abbrev pub cellW : ℕ
@@ -17,10 +16,6 @@ cellH = 16
 
 abbrev pub bearingY : ℕ
 bearingY = 12
-
--- the font of a bold mark
-abbrev pub fontOf : Bool → BitmapFont
-fontOf b = record { «cell_w» = cellW; «cell_h» = cellH; «bearing_y» = bearingY; bold = b }
 
 -- f 0, f 1, and so on, n of them
 unfoldable pub tabulate : (ℕ → ℕ) → ℕ → List ℕ
@@ -42,7 +37,7 @@ unfoldable pub regularTable : List ℕ
 unfolding glyphs
 regularTable = tableRows glyphs
 
--- a bold row: r or r shifted right by one
+-- a bold row: the bits of r, and those of r shifted right by one
 abbrev pub embolden : ℕ → ℕ
 embolden r = bitOr r (r / 2)
 

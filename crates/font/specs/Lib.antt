@@ -1,4 +1,5 @@
 -- The definitions in reading order, then the promises that the crate's functions make to each other.
+pub mod Signs
 pub mod Glyphs
 pub mod Font
 pub mod Slant

@@ -1,4 +1,5 @@
--- Promises: the slant as the code works it out, in f32. `Slant` says what comes out of it; no reader of the deposit needs this file.
+-- Promises: fonts and pens as the code has them, and the slant as it works it out, in f32. `Slant` says what comes out of it; no reader of the
+-- deposit needs this file.
 use mathlib.Core.Path.{_≡_}
 use mathlib.Core.Bool.{Bool, true, false}
 use mathlib.Core.List.{List}
@@ -7,7 +8,12 @@ use lib.IntN.{pos, _-ℤ_}
 use lib.Ieee.{Float, nan, inf, fin, binary32, ofInt, lt, mul, div, up, down}
 use Rattle.font.specs.Font.{cellW, cellH, bearingY}
 use Rattle.font.specs.Slant.{nearest}
+use Rattle.font.specs.declared.BitmapFont.{BitmapFont}
 use Rattle.font.specs.declared.Pen.{Pen}
+
+-- the font of a bold mark
+abbrev pub fontOf : Bool → BitmapFont
+fontOf b = record { «cell_w» = cellW; «cell_h» = cellH; «bearing_y» = bearingY; bold = b }
 
 abbrev pub float : ℕ → Float
 float n = ofInt binary32 (pos n)

@@ -8,10 +8,10 @@ pub use paint::draw_glyph_sheared;
 ghost use mathlib.Core.Path.{_≡_};
 ghost use mathlib.Core.Bool.{true, false};
 ghost use Prim.Native.Nat.{_<_};
-ghost use Rattle.font.specs.Font.{fontOf, tableOf, glyphRows};
+ghost use Rattle.font.specs.Font.{tableOf, glyphRows};
 ghost use Rattle.font.specs.Blend.{colorBytes};
 ghost use Rattle.font.specs.Slant.{rowOffset, rowOffsets};
-ghost use Rattle.font.specs.Shear.{penOf, leans, Shear, Moved, rounded};
+ghost use Rattle.font.specs.Shear.{fontOf, penOf, leans, Shear, Moved, rounded};
 
 // A font: its metrics in pixels, and the bold mark that picks its table. The base line lies
 // `bearing_y` rows below a cell's top.

@@ -1,5 +1,5 @@
 -- The other reading of a tape: the segments that it writes, and the runs that walking them gives, as in the original.
--- That the two readings agree is `written-means` of proofs/Written.antt. Definitions only.
+-- That the two readings agree is proved. Definitions only.
 use mathlib.Core.Path.{_≡_}
 use mathlib.Core.Bool.{Bool, true, cond, _&&_}
 use mathlib.Core.List.{List, [], _∷_, _++_}

@@ -27,8 +27,7 @@ fn wide(x: u8) -> u32
     x as u32
 }
 
-// What a letter is drawn in. Its color is four bytes and no array, so that a state that holds it
-// can stand in an enum.
+// What a letter is drawn in.
 pub struct Style {
     pub red: u8,
     pub green: u8,

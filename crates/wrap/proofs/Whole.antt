@@ -19,9 +19,9 @@ use Rattle.wrap.specs.declared.Lines.{Lines}
 use Rattle.wrap.specs.declared.Answer.{Answer}
 use Rattle.wrap.specs.Lines.{Line, Filling, upFrom, noLetter, withoutLast, logicalLines, noLines, filled, isEmptyLine, wrapRuns}
 use Rattle.wrap.specs.Wrap.{mostColumns, Caption, captionOf, wrapCall, twos, lineTable}
-use Rattle.wrap.specs.Laid.{numbersFrom, tableFrom, Holds, Laid}
+use Rattle.wrap.specs.Laid.{numbersFrom, tableFrom, Holds, Laid, Brought}
 use Rattle.wrap.specs.Filled.{done, Held}
-use Rattle.wrap.specs.Wrapped.{Brought, answerOf, Left, Wrapped}
+use Rattle.wrap.specs.Wrapped.{answerOf, Left, Wrapped}
 use Rattle.wrap.proofs.Lists.{last-front, last-short, last-all}
 use Rattle.wrap.proofs.Shown.{fill-ended}
 use Rattle.wrap.proofs.Bytes.{length-twos, length-table, take-table, slice-after, slice-less, front-two}

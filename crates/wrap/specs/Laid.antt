@@ -2,14 +2,14 @@
 use mathlib.Core.Path.{_≡_}
 use mathlib.Core.List.{List, flatten}
 use Prim.Native.Nat.{ℕ, _+_, _*_, _≤_, _<_}
-use lib.ListN.{length, getD}
+use lib.ListN.{length, getD, take}
 use lib.Seq.{slice}
 use Rattle.tape.specs.Command.{mostLetters}
 use Rattle.tape.specs.Runs.{Letter}
 use Rattle.tape.specs.Stored.{letterAt}
 use Rattle.wrap.specs.declared.Lines.{Lines}
 use Rattle.wrap.specs.Lines.{Line, letterOf, wrapRuns}
-use Rattle.wrap.specs.Wrap.{twos, lineTable}
+use Rattle.wrap.specs.Wrap.{captionOf, twos, lineTable, lineBytes}
 
 -- where the numbers of the letters on lines begin, two bytes each, and the table of lines, four bytes each
 abbrev pub numbersFrom : ℕ
@@ -48,3 +48,8 @@ pub record Laid (ls : List Letter) (limit : ℕ) (made : Lines) (ws : List ℕ) 
   pub lines : HoldsLines ls (wrapRuns ls limit) ws
   pub count : made .lines ≡ length (wrapRuns ls limit)
   pub onLines : made .letters ≡ length (flatten (wrapRuns ls limit))
+
+-- the lines were brought to the workspace's front, so many
+pub record Brought (ls : List Letter) (limit lines : ℕ) (ws : List ℕ) : Type 0 where
+  pub count : lines ≡ length (wrapRuns ls limit)
+  pub bytes : take (length (lineBytes (captionOf limit ls))) ws ≡ lineBytes (captionOf limit ls)

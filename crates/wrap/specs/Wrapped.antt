@@ -1,18 +1,11 @@
--- Promises: the contract of the call. No reader of the deposit needs this file.
+-- THE CONTRACT OF WRAP: what a call answers and what it leaves, for every input.
 use mathlib.Core.Path.{_≡_}
 use mathlib.Core.List.{List}
 use Prim.Native.Nat.{ℕ, _≤_}
 use lib.ListN.{length, take}
 use Rattle.tape.specs.Outcome.{Outcome, accepted, refused}
-use Rattle.tape.specs.Runs.{Letter}
 use Rattle.wrap.specs.declared.Answer.{Answer}
-use Rattle.wrap.specs.Lines.{wrapRuns}
-use Rattle.wrap.specs.Wrap.{Caption, captionOf, wrapCall, lineBytes}
-
--- the workspace begins with the lines of letters, so many
-pub record Brought (ls : List Letter) (limit lines : ℕ) (ws : List ℕ) : Type 0 where
-  pub count : lines ≡ length (wrapRuns ls limit)
-  pub bytes : take (length (lineBytes (captionOf limit ls))) ws ≡ lineBytes (captionOf limit ls)
+use Rattle.wrap.specs.Wrap.{Caption, wrapCall, lineBytes}
 
 -- the answer that says an outcome: how many lines there are, or the refusal's number and place
 abbrev pub answerOf : Outcome Caption → Answer
@@ -25,6 +18,7 @@ abbrev pub Left : Outcome Caption → List ℕ → List ℕ → Type 0
 Left (accepted c) ws ws' = take (length (lineBytes c)) ws' ≡ lineBytes c
 Left (refused number place) ws ws' = 8 ≤ number → ws' ≡ ws
 
+-- the workspace before and after, and the answer
 pub record Wrapped (tape ws ws' : List ℕ) (limit : ℕ) (answer : Answer) : Type 0 where
   pub answers : answer ≡ answerOf (wrapCall limit (length ws) tape)
   pub leaves : Left (wrapCall limit (length ws) tape) ws ws'

@@ -19,8 +19,8 @@ ghost use Rattle.tape.specs.Runs.{Letter};
 ghost use Rattle.tape.specs.Tape.{leastRoom};
 ghost use Rattle.wrap.specs.Lines.{Line, isEmptyLine, withoutLast};
 ghost use Rattle.wrap.specs.Wrap.{mostColumns, lineTable};
-ghost use Rattle.wrap.specs.Laid.{tableFrom, lettersOn, Holds, Laid};
-ghost use Rattle.wrap.specs.Wrapped.{Brought, Wrapped};
+ghost use Rattle.wrap.specs.Laid.{tableFrom, lettersOn, Holds, Laid, Brought};
+ghost use Rattle.wrap.specs.Wrapped.{Wrapped};
 use tape::Style;
 
 const MOST_COLUMNS: u32 = 4096;

@@ -48,6 +48,20 @@ impl Settings {
         1 + 8 * self.outline.min(2) as usize
     }
 
+    /// The settings as the proved calls take them.
+    pub fn words(&self) -> captions::raw::Settings {
+        [
+            self.width,
+            self.height,
+            u32::from_be_bytes(self.default_color),
+            u32::from_be_bytes(self.outline_color),
+            self.line_height,
+            self.bottom_margin,
+            self.outline,
+            self.alignment,
+        ]
+    }
+
     /// Those that the original's compositor is told.
     pub fn told(&self) -> reference::Settings {
         reference::Settings {

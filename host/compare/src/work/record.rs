@@ -1,13 +1,14 @@
 //! The job record, and the stripes that it speaks of.
 
+use crate::refusal::{self, Refusal};
+use captions::raw;
 use std::ops::Range;
 
 /// How many stripes a picture has at most.
 pub const STRIPES: usize = 64;
 
-/// A record as the proved calls take it: 65 numbers in a row.
+/// How far a job is: the rows of a stripe, and the strokes that each stripe has had.
 #[derive(Clone, Copy, Debug, PartialEq)]
-#[repr(C)]
 pub struct Record {
     pub stripe_height: u32,
     pub counters: [u32; STRIPES],
@@ -20,6 +21,19 @@ impl Record {
             stripe_height,
             counters: [0; STRIPES],
         }
+    }
+
+    /// Lends the record to a proved call as it takes it, 65 numbers in a row.
+    pub fn lend(&mut self, call: impl FnOnce(&mut raw::Record) -> u64) -> Result<usize, Refusal> {
+        let mut words = [self.stripe_height; 1 + STRIPES];
+        words[1..].copy_from_slice(&self.counters);
+        let answer = call(&mut words);
+        let [stripe_height, counters @ ..] = words;
+        *self = Record {
+            stripe_height,
+            counters,
+        };
+        refusal::halves(answer)
     }
 
     /// Whether at most 64 stripes reach over a picture so high.

@@ -1,0 +1,151 @@
+//! The options of `captions burn`.
+
+use crate::args::Choice;
+use captions::{Align, LINE_HEIGHT_MAX, SIDE_MAX, Settings};
+
+const COLOR: &str = "a color in hexadecimal, RRGGBB or RRGGBBAA";
+
+pub struct Options {
+    pub settings: Settings,
+    /// How many rows a stripe has; none where the frame is drawn whole.
+    pub stripes: Option<u32>,
+    /// How many strokes are done at a time; none where they are all.
+    pub budget: Option<u32>,
+}
+
+impl Options {
+    pub fn new() -> Options {
+        Options {
+            settings: Settings::new(640, 360),
+            stripes: None,
+            budget: None,
+        }
+    }
+
+    /// The settings that are outside their ranges, with these.
+    pub fn out_of_range(&self) -> Vec<String> {
+        let Settings {
+            width,
+            height,
+            line_height_px,
+            ..
+        } = self.settings;
+        let ranges = [
+            ("--width", width, SIDE_MAX),
+            ("--height", height, SIDE_MAX),
+            ("--line-height", line_height_px, LINE_HEIGHT_MAX),
+        ];
+        let outside = ranges.into_iter().filter(|(_, value, most)| value > most);
+        outside
+            .map(|(name, value, most)| format!("{name} is {value}, and its range is 0 to {most}"))
+            .collect()
+    }
+}
+
+pub const CHOICES: [Choice<Options>; 10] = [
+    Choice {
+        name: "--width",
+        value: "PIXELS",
+        takes: "a number from 0 to 4096",
+        more: "640 by default",
+        set: |options, value| number(&mut options.settings.width, value),
+    },
+    Choice {
+        name: "--height",
+        value: "PIXELS",
+        takes: "a number from 0 to 4096",
+        more: "360 by default",
+        set: |options, value| number(&mut options.settings.height, value),
+    },
+    Choice {
+        name: "--default-color",
+        value: "COLOR",
+        takes: COLOR,
+        more: "of letters outside color lists; FFFFFFFF by default",
+        set: |options, value| color(&mut options.settings.default_color, value),
+    },
+    Choice {
+        name: "--outline-color",
+        value: "COLOR",
+        takes: COLOR,
+        more: "000000FF by default",
+        set: |options, value| color(&mut options.settings.outline_color, value),
+    },
+    Choice {
+        name: "--line-height",
+        value: "PIXELS",
+        takes: "a number from 0 to 1024",
+        more: "under 16 it counts as 16; 20 by default",
+        set: |options, value| number(&mut options.settings.line_height_px, value),
+    },
+    Choice {
+        name: "--bottom-margin",
+        value: "PIXELS",
+        takes: "a number from 0 to 4294967295",
+        more: "24 by default",
+        set: |options, value| number(&mut options.settings.bottom_margin_px, value),
+    },
+    Choice {
+        name: "--outline",
+        value: "PIXELS",
+        takes: "a number from 0 to 4294967295",
+        more: "over 2 it counts as 2; 1 by default",
+        set: |options, value| number(&mut options.settings.outline_px, value),
+    },
+    Choice {
+        name: "--align",
+        value: "WHERE",
+        takes: "center (or centre), left, start, right or end",
+        more: "center by default",
+        set: |options, value| align(&mut options.settings.align, value),
+    },
+    Choice {
+        name: "--stripes",
+        value: "ROWS",
+        takes: "a number from 1 to 4294967295",
+        more: "draws in stripes so high, at most 64 of them",
+        set: |options, value| number(options.stripes.insert(0), value),
+    },
+    Choice {
+        name: "--budget",
+        value: "STROKES",
+        takes: "a number from 1 to 4294967295",
+        more: "with --stripes: so many at a time; all by default",
+        set: |options, value| {
+            number(options.budget.insert(0), value)?;
+            options.budget.filter(|budget| *budget > 0).map(drop)
+        },
+    },
+];
+
+fn number(to: &mut u32, value: &str) -> Option<()> {
+    *to = value.parse().ok()?;
+    Some(())
+}
+
+/// Six or eight hexadecimal digits, with a # before them or not; six have alpha FF.
+fn color(to: &mut [u8; 4], value: &str) -> Option<()> {
+    let digits = value.strip_prefix('#').unwrap_or(value);
+    if !digits.bytes().all(|digit| digit.is_ascii_hexdigit()) {
+        return None;
+    }
+    let number = u32::from_str_radix(digits, 16).ok()?;
+    *to = match digits.len() {
+        6 => (number << 8 | 0xff).to_be_bytes(),
+        8 => number.to_be_bytes(),
+        _ => return None,
+    };
+    Some(())
+}
+
+fn align(to: &mut Align, value: &str) -> Option<()> {
+    *to = match value {
+        "center" | "centre" => Align::Center,
+        "left" => Align::Left,
+        "start" => Align::Start,
+        "right" => Align::Right,
+        "end" => Align::End,
+        _ => return None,
+    };
+    Some(())
+}

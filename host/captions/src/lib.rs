@@ -1,0 +1,51 @@
+//! Bitmap captions, drawn by the proved library `libcaptions.a`.
+//!
+//! A cue comes in as a tape of bytes. [`draw`] draws it whole, [`wrap`] breaks it into lines, and
+//! [`Job`] draws it in stripes, a budget of strokes at a time. What is not admitted comes back as a
+//! [`Refusal`], and the picture stays as it was; no call panics.
+//!
+//! ```
+//! use captions::{Settings, Workspace, draw};
+//!
+//! let settings = Settings::new(320, 180);
+//! let mut picture = settings.new_picture();
+//! let strokes = draw(&settings, b"\x02H\x02i", &mut Workspace::new(), &mut picture)?;
+//! assert_eq!(strokes, 2 * 9); // an outline of one pixel is eight strokes a letter
+//! # Ok::<(), captions::Refusal>(())
+//! ```
+
+mod job;
+mod lines;
+pub mod raw;
+mod refusal;
+mod settings;
+mod workspace;
+
+pub use job::{Job, STRIPES_MAX};
+pub use lines::{COLUMNS_MAX, Line, wrap};
+pub use refusal::{Refusal, Result};
+pub use settings::{Align, LINE_HEIGHT_MAX, SIDE_MAX, Settings};
+pub use workspace::{WORKSPACE_BYTES, Workspace};
+
+/// The most bytes of a tape.
+pub const TAPE_MAX: usize = 16_384;
+/// The most letters of a cue.
+pub const LETTERS_MAX: usize = 4_096;
+
+/// Draws a tape's cue on a cleared picture, and answers how many strokes it took.
+///
+/// `picture` begins with the picture: its rows from the top, each its pixels from the left, four
+/// bytes a pixel, red, green, blue and alpha. The bytes after it stay.
+pub fn draw(
+    settings: &Settings,
+    tape: &[u8],
+    workspace: &mut Workspace,
+    picture: &mut [u8],
+) -> Result<u32> {
+    let buffers = raw::Buffers {
+        tape,
+        workspace: workspace.bytes(),
+        picture,
+    };
+    refusal::answer(raw::draw(settings.words(), buffers))
+}

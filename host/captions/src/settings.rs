@@ -1,0 +1,82 @@
+//! How a cue is drawn.
+
+use crate::raw;
+
+/// The most pixels of a picture's width, and of its height.
+pub const SIDE_MAX: u32 = 4_096;
+/// The most pixels from one line to the next.
+pub const LINE_HEIGHT_MAX: u32 = 1_024;
+
+/// Where the lines of a cue stand between the picture's sides.
+#[derive(Clone, Copy, Debug, Default, PartialEq, Eq)]
+#[repr(u32)]
+pub enum Align {
+    #[default]
+    Center = 0,
+    Left = 1,
+    Start = 2,
+    Right = 3,
+    End = 4,
+}
+
+/// Sizes are in pixels, colors are red, green, blue and alpha.
+#[derive(Clone, Copy, Debug, PartialEq, Eq)]
+pub struct Settings {
+    /// At most [`SIDE_MAX`]; 0 is allowed.
+    pub width: u32,
+    /// At most [`SIDE_MAX`]; 0 is allowed.
+    pub height: u32,
+    /// The color of letters outside every color list.
+    pub default_color: [u8; 4],
+    pub outline_color: [u8; 4],
+    /// At most [`LINE_HEIGHT_MAX`]; under 16, a cell's height, it counts as 16.
+    pub line_height_px: u32,
+    /// From the picture's lowest row up; any number.
+    pub bottom_margin_px: u32,
+    /// Any number; over 2 it counts as 2.
+    pub outline_px: u32,
+    pub align: Align,
+}
+
+impl Settings {
+    /// The original's own defaults, for a picture of this size.
+    pub fn new(width: u32, height: u32) -> Settings {
+        Settings {
+            width,
+            height,
+            default_color: [255; 4],
+            outline_color: [0, 0, 0, 255],
+            line_height_px: 20,
+            bottom_margin_px: 24,
+            outline_px: 1,
+            align: Align::Center,
+        }
+    }
+
+    /// A cleared buffer as long as the picture. It is empty where width or height is out of range,
+    /// which every call that takes settings refuses.
+    pub fn new_picture(&self) -> Vec<u8> {
+        let side = |pixels: u32| {
+            if pixels > SIDE_MAX {
+                0
+            } else {
+                pixels as usize
+            }
+        };
+        vec![0; side(self.width) * side(self.height) * 4]
+    }
+
+    /// The settings as the library takes them.
+    pub(crate) fn words(&self) -> raw::Settings {
+        [
+            self.width,
+            self.height,
+            u32::from_be_bytes(self.default_color),
+            u32::from_be_bytes(self.outline_color),
+            self.line_height_px,
+            self.bottom_margin_px,
+            self.outline_px,
+            self.align as u32,
+        ]
+    }
+}

@@ -1,0 +1,459 @@
+/*
+ * A caller of libcaptions.a in C, and a test of captions.h: wraps a cue, draws it, draws it again
+ * in stripes, and is refused in every way that there is.
+ */
+#include "captions.h"
+
+#include <stdio.h>
+#include <string.h>
+
+enum {
+    WIDTH = 96,
+    HEIGHT = 40,
+    PICTURE_BYTES = WIDTH * HEIGHT * 4,
+    AFTER = 16, /* bytes after the picture */
+    STRIPE_HEIGHT = 7,
+    STRIPES = 6, /* the last has 5 rows */
+    BUDGET = 5,
+    PAINT = 0xA5 /* what buffers hold before a call */
+};
+
+struct settings {
+    uint32_t width;
+    uint32_t height;
+    uint32_t default_color;
+    uint32_t outline_color;
+    uint32_t line_height;
+    uint32_t bottom_margin;
+    uint32_t outline;
+    uint32_t alignment;
+};
+
+/* What a call that draws is given. */
+struct call {
+    struct settings settings;
+    const uint8_t *tape;
+    size_t tape_len;
+    uint8_t *workspace;
+    size_t workspace_len;
+    uint8_t *picture;
+    size_t picture_len;
+};
+
+/* "Hi" in bold, a break, and "you". */
+static const uint8_t GREETING[] = {6, 2, 'H', 2, 'i', 0, 5, 2, 'y', 2, 'o', 2, 'u'};
+enum { GREETING_LETTERS = 5 };
+
+static uint8_t workspace[CAPTIONS_WORKSPACE_MIN];
+static uint8_t picture[PICTURE_BYTES + AFTER];
+static uint32_t record[CAPTIONS_RECORD_WORDS];
+
+static int passed;
+static int failed;
+
+static void check(int holds, const char *what)
+{
+    if (holds) {
+        passed++;
+    } else {
+        failed++;
+        fprintf(stderr, "FAILED: %s\n", what);
+    }
+}
+
+/* The three calls that draw. */
+
+static uint64_t draw(const struct call *c)
+{
+    const struct settings *s = &c->settings;
+    return captions_draw(s->width, s->height, s->default_color, s->outline_color, s->line_height,
+                         s->bottom_margin, s->outline, s->alignment, c->tape, c->tape_len,
+                         c->workspace, c->workspace_len, c->picture, c->picture_len);
+}
+
+static uint64_t open_job(const struct call *c, uint32_t stripe_height)
+{
+    const struct settings *s = &c->settings;
+    return captions_open(s->width, s->height, s->default_color, s->outline_color, s->line_height,
+                         s->bottom_margin, s->outline, s->alignment, c->tape, c->tape_len,
+                         c->workspace, c->workspace_len, c->picture, c->picture_len, stripe_height,
+                         record);
+}
+
+static uint64_t work(const struct call *c, uint32_t stripe, uint32_t budget)
+{
+    const struct settings *s = &c->settings;
+    return captions_work(s->width, s->height, s->default_color, s->outline_color, s->line_height,
+                         s->bottom_margin, s->outline, s->alignment, c->tape, c->tape_len,
+                         c->workspace, c->workspace_len, c->picture, c->picture_len, record, stripe,
+                         budget);
+}
+
+/* A call that is accepted: the greeting in yellow, with a blue outline of one pixel. */
+static struct call good_call(void)
+{
+    struct call c;
+    c.settings.width = WIDTH;
+    c.settings.height = HEIGHT;
+    c.settings.default_color = 0xFFEE11FF;
+    c.settings.outline_color = 0x0022CCFF;
+    c.settings.line_height = 16;
+    c.settings.bottom_margin = 4;
+    c.settings.outline = 1;
+    c.settings.alignment = CAPTIONS_ALIGN_CENTER;
+    c.tape = GREETING;
+    c.tape_len = sizeof GREETING;
+    c.workspace = workspace;
+    c.workspace_len = sizeof workspace;
+    c.picture = picture;
+    c.picture_len = sizeof picture;
+    return c;
+}
+
+/* Whether so many bytes are all this one. */
+static int is_all(const void *bytes, size_t count, int byte)
+{
+    const uint8_t *next = (const uint8_t *)bytes;
+    for (; count > 0; count--) {
+        if (*next++ != byte) {
+            return 0;
+        }
+    }
+    return 1;
+}
+
+/* How many pixels of the picture have a color 0xRRGGBBAA. */
+static int pixels_of(uint32_t color)
+{
+    int count = 0;
+    for (size_t at = 0; at < PICTURE_BYTES; at += 4) {
+        uint32_t pixel = (uint32_t)picture[at] << 24 | (uint32_t)picture[at + 1] << 16
+            | (uint32_t)picture[at + 2] << 8 | picture[at + 3];
+        count += pixel == color;
+    }
+    return count;
+}
+
+/* The leftmost column with a pixel that is not clear, or WIDTH. */
+static size_t first_lit_column(void)
+{
+    size_t first = WIDTH;
+    for (size_t pixel = 0; pixel < PICTURE_BYTES / 4; pixel++) {
+        if (picture[4 * pixel + 3] != 0 && pixel % WIDTH < first) {
+            first = pixel % WIDTH;
+        }
+    }
+    return first;
+}
+
+/* Wrap leaves each line's letters and columns, and then the numbers of the letters. */
+static void check_wrap(void)
+{
+    static const uint8_t tape[] = {2, 'A', 2, 'B', 2, 'C', 2, 'D', 2, 'E', 2, ' ', 2, 'F',
+                                   5, 2, 'G'};
+    static const unsigned due[] = {4, 4, 3, 3, 1, 1, 0, 1, 2, 3, 4, 5, 6, 8};
+    uint64_t lines = captions_wrap(tape, sizeof tape, workspace, sizeof workspace, 4);
+    check(lines == 3, "Wrap: ABCDE F, break, G at 4 columns has three lines");
+    int same = 1;
+    for (size_t i = 0; i < sizeof due / sizeof due[0]; i++) {
+        unsigned number = (unsigned)workspace[2 * i] << 8 | workspace[2 * i + 1];
+        same = same && number == due[i];
+    }
+    check(same, "Wrap: the lines are ABCD, E F and G");
+}
+
+static void check_draw(void)
+{
+    struct call c = good_call();
+    memset(picture, PAINT, sizeof picture);
+    check(draw(&c) == GREETING_LETTERS * 9, "Draw: answers nine strokes a letter");
+    check(pixels_of(0) > 0, "Draw: clears the picture");
+    check(pixels_of(c.settings.default_color) > 0, "Draw: letters have the default color");
+    check(pixels_of(c.settings.outline_color) > 0, "Draw: outlines have the outline color");
+    check(is_all(picture + PICTURE_BYTES, AFTER, PAINT), "Draw: the bytes after the picture stay");
+
+    c.settings.outline = 0;
+    check(draw(&c) == GREETING_LETTERS, "Draw: without an outline, a stroke a letter");
+    check(pixels_of(c.settings.outline_color) == 0, "Draw: outline 0 draws none");
+    c.settings.outline = UINT32_MAX;
+    check(draw(&c) == GREETING_LETTERS * 17, "Draw: an outline over 2 counts as 2");
+    c.settings.bottom_margin = UINT32_MAX;
+    check(draw(&c) == GREETING_LETTERS * 17, "Draw: any bottom margin is accepted");
+}
+
+static size_t lit_from(uint32_t alignment)
+{
+    struct call c = good_call();
+    c.settings.alignment = alignment;
+    check(captions_refused(draw(&c)) == 0, "Draw: the alignment is accepted");
+    return first_lit_column();
+}
+
+static void check_alignments(void)
+{
+    size_t left = lit_from(CAPTIONS_ALIGN_LEFT);
+    size_t center = lit_from(CAPTIONS_ALIGN_CENTER);
+    size_t right = lit_from(CAPTIONS_ALIGN_RIGHT);
+    check(left < center, "alignment: center starts right of left");
+    check(center < right, "alignment: right starts right of center");
+    check(lit_from(CAPTIONS_ALIGN_START) == left, "alignment: start is as left");
+    check(lit_from(CAPTIONS_ALIGN_END) == right, "alignment: end is as right");
+}
+
+/* Works on a stripe until its strokes are done. Returns whether no call was refused. */
+static int finish(const struct call *c, uint32_t stripe)
+{
+    uint64_t done;
+    do {
+        done = work(c, stripe, BUDGET);
+    } while (done == BUDGET);
+    return captions_refused(done) == 0;
+}
+
+/* A job, all its stripes done a few strokes at a time, leaves what Draw leaves. */
+static void check_job(void)
+{
+    static uint8_t drawn[sizeof picture];
+    struct call c = good_call();
+    memset(picture, PAINT, sizeof picture);
+    uint64_t total = draw(&c);
+    memcpy(drawn, picture, sizeof picture);
+
+    memset(picture, PAINT, sizeof picture);
+    check(open_job(&c, STRIPE_HEIGHT) == total, "Open: answers as many strokes as Draw");
+    check(is_all(picture, PICTURE_BYTES, 0), "Open: clears the picture");
+    check(is_all(picture + PICTURE_BYTES, AFTER, PAINT), "Open: the bytes after the picture stay");
+    check(record[0] == STRIPE_HEIGHT, "Open: the record begins with the stripe height");
+    check(is_all(record + 1, sizeof record - sizeof record[0], 0), "Open: the counters are 0");
+
+    check(work(&c, 2, BUDGET) == BUDGET, "Work: does as many strokes as its budget");
+    check(record[1 + 2] == BUDGET, "Work: counts them");
+    for (uint32_t stripe = 0; stripe < STRIPES; stripe++) {
+        check(finish(&c, stripe), "Work: is accepted until the stripe is done");
+        check(record[1 + stripe] == total, "Work: all strokes of the stripe are counted");
+    }
+    check(work(&c, 2, BUDGET) == 0, "Work: nothing is left of a stripe that is done");
+    check(memcmp(picture, drawn, sizeof picture) == 0, "Work: the picture is what Draw leaves");
+}
+
+/* A tape without bytes is a cue without lines, and a buffer of no bytes may be NULL. */
+static void check_empty(void)
+{
+    struct call c = good_call();
+    c.tape = NULL;
+    c.tape_len = 0;
+    check(captions_wrap(NULL, 0, workspace, sizeof workspace, 4) == 0, "Wrap: of an empty tape");
+    check(draw(&c) == 0, "Draw: of an empty tape");
+    check(is_all(picture, PICTURE_BYTES, 0), "Draw: an empty tape leaves a clear picture");
+
+    c = good_call();
+    c.settings.height = 0;
+    c.picture = NULL;
+    c.picture_len = 0;
+    check(draw(&c) == GREETING_LETTERS * 9, "Draw: on a picture without rows");
+    check(open_job(&c, STRIPE_HEIGHT) == GREETING_LETTERS * 9, "Open: of a picture without rows");
+    check(captions_refused(work(&c, 0, 1)) == CAPTIONS_NO_SUCH_STRIPE, "Work: it has no stripe");
+}
+
+static void check_answer(const char *what, uint64_t answer, uint32_t number, uint32_t place)
+{
+    if (captions_refused(answer) == number && captions_place(answer) == place) {
+        passed++;
+        return;
+    }
+    failed++;
+    fprintf(stderr, "FAILED: %s: refused %u at %u, and not %u at %u\n", what,
+            (unsigned)captions_refused(answer), (unsigned)captions_place(answer),
+            (unsigned)number, (unsigned)place);
+}
+
+/* What a call must leave that is refused with this number. */
+static void check_left(const char *what, uint32_t number)
+{
+    check(is_all(picture, sizeof picture, PAINT), what);
+    if ((number >= 8 && number <= 11) || number == 13) {
+        check(is_all(workspace, sizeof workspace, PAINT), what);
+    }
+}
+
+static void paint(void)
+{
+    memset(picture, PAINT, sizeof picture);
+    memset(workspace, PAINT, sizeof workspace);
+}
+
+static void check_draw_refused(const struct call *c, uint32_t number, uint32_t place)
+{
+    paint();
+    check_answer("Draw, refused", draw(c), number, place);
+    check_left("Draw, refused: leaves the picture, and the workspace where it must", number);
+}
+
+static void check_open_refused(const struct call *c, uint32_t stripe_height, uint32_t number,
+                               uint32_t place)
+{
+    paint();
+    memset(record, PAINT, sizeof record);
+    check_answer("Open, refused", open_job(c, stripe_height), number, place);
+    check_left("Open, refused: leaves the picture, and the workspace where it must", number);
+    check(is_all(record, sizeof record, 0), "Open, refused: writes zeros to the record");
+}
+
+/* With the record as it is. */
+static void check_work_refused(const struct call *c, uint32_t stripe, uint32_t number,
+                               uint32_t place)
+{
+    uint32_t before[CAPTIONS_RECORD_WORDS];
+    paint();
+    memcpy(before, record, sizeof record);
+    check_answer("Work, refused", work(c, stripe, BUDGET), number, place);
+    check_left("Work, refused: leaves the picture, and the workspace where it must", number);
+    check(memcmp(record, before, sizeof record) == 0, "Work, refused: leaves the record");
+}
+
+/* The record of a job that has done nothing. */
+static void new_record(uint32_t stripe_height)
+{
+    memset(record, 0, sizeof record);
+    record[0] = stripe_height;
+}
+
+static void check_refused(const struct call *c, uint32_t number, uint32_t place)
+{
+    check_draw_refused(c, number, place);
+    check_open_refused(c, STRIPE_HEIGHT, number, place);
+    new_record(STRIPE_HEIGHT);
+    check_work_refused(c, 0, number, place);
+}
+
+/* Whoever wrote the tape is stopped by every call. */
+static void check_tape(const uint8_t *tape, size_t length, uint32_t number, uint32_t place)
+{
+    struct call c = good_call();
+    c.tape = tape;
+    c.tape_len = length;
+    paint();
+    check_answer("Wrap, refused", captions_wrap(tape, length, workspace, sizeof workspace, 4),
+                 number, place);
+    check_left("Wrap, refused: leaves the workspace where it must", number);
+    check_refused(&c, number, place);
+}
+
+static void check_tape_refusals(void)
+{
+    static const uint8_t unknown[] = {2, 'A', 0x0C};
+    static const uint8_t cut[] = {2, 'A', 4, 0};
+    static const uint8_t closed[] = {2, 'A', 0};
+    static const uint8_t left_open[] = {6, 2, 'A'};
+    static const uint8_t surrogate[] = {2, 'A', 4, 0x00, 0xD8, 0x00};
+    static const uint8_t too_large[] = {4, 0x11, 0x00, 0x00};
+    static const uint8_t break_in_name[] = {9, 2, 'A', 5};
+    static uint8_t many[CAPTIONS_TAPE_MAX + 1];
+
+    check_tape(unknown, sizeof unknown, CAPTIONS_UNKNOWN_COMMAND, 2);
+    check_tape(cut, sizeof cut, CAPTIONS_OPERANDS_MISSING, 2);
+    check_tape(closed, sizeof closed, CAPTIONS_UNBALANCED, 2);
+    check_tape(left_open, sizeof left_open, CAPTIONS_UNBALANCED, sizeof left_open);
+    check_tape(surrogate, sizeof surrogate, CAPTIONS_NOT_A_SCALAR, 2);
+    check_tape(too_large, sizeof too_large, CAPTIONS_NOT_A_SCALAR, 0);
+    check_tape(break_in_name, sizeof break_in_name, CAPTIONS_NOT_IN_A_NAME, 3);
+    memset(many, 0x0A, sizeof many);
+    check_tape(many, 17, CAPTIONS_TOO_DEEP, 16);
+    memset(many, 0x05, sizeof many);
+    check_tape(many, CAPTIONS_LETTERS_MAX + 1, CAPTIONS_TOO_MANY_LETTERS, CAPTIONS_LETTERS_MAX);
+    check_tape(many, sizeof many, CAPTIONS_TAPE_TOO_LONG, 0);
+
+    check(captions_wrap(many, CAPTIONS_LETTERS_MAX, workspace, sizeof workspace, 4) == 0,
+          "Wrap: as many letters as a cue may have, all of them breaks");
+    memset(many, 0x0B, sizeof many);
+    check(captions_wrap(many, CAPTIONS_TAPE_MAX, workspace, sizeof workspace, 4) == 0,
+          "Wrap: a tape as long as it may be");
+}
+
+/* A setting is accepted up to its limit, and refused above it. */
+static void check_limit(struct call *c, uint32_t *setting, uint32_t limit)
+{
+    uint32_t before = *setting;
+    *setting = limit;
+    check(captions_refused(draw(c)) == 0, "Draw: a setting at its limit is accepted");
+    *setting = limit + 1;
+    check_refused(c, CAPTIONS_OUT_OF_RANGE, 0);
+    *setting = before;
+}
+
+static void check_setting_refusals(void)
+{
+    struct call c = good_call();
+    check_limit(&c, &c.settings.line_height, CAPTIONS_LINE_HEIGHT_MAX);
+    check_limit(&c, &c.settings.alignment, CAPTIONS_ALIGN_END);
+    c.settings.height = 0;
+    check_limit(&c, &c.settings.width, CAPTIONS_SIDE_MAX);
+    c.settings.width = 0;
+    check_limit(&c, &c.settings.height, CAPTIONS_SIDE_MAX);
+
+    uint64_t answer = captions_wrap(GREETING, sizeof GREETING, workspace, sizeof workspace,
+                                    CAPTIONS_COLUMNS_MAX);
+    check(answer == 2, "Wrap: the largest column limit is accepted");
+    answer = captions_wrap(GREETING, sizeof GREETING, workspace, sizeof workspace,
+                           CAPTIONS_COLUMNS_MAX + 1);
+    check_answer("Wrap, column limit too large", answer, CAPTIONS_OUT_OF_RANGE, 0);
+    answer = captions_wrap(GREETING, sizeof GREETING, workspace, sizeof workspace, 0);
+    check_answer("Wrap, column limit 0", answer, CAPTIONS_OUT_OF_RANGE, 0);
+}
+
+static void check_length_refusals(void)
+{
+    struct call c = good_call();
+    c.picture_len = PICTURE_BYTES - 1;
+    check_refused(&c, CAPTIONS_PICTURE_TOO_SHORT, 0);
+    c.picture_len = PICTURE_BYTES;
+    check(captions_refused(draw(&c)) == 0, "Draw: a picture without bytes after it is accepted");
+
+    c.workspace_len = CAPTIONS_WORKSPACE_MIN - 1;
+    check_refused(&c, CAPTIONS_WORKSPACE_TOO_SHORT, 0);
+    uint64_t answer = captions_wrap(c.tape, c.tape_len, workspace, CAPTIONS_WORKSPACE_MIN - 1, 4);
+    check_answer("Wrap, workspace too short", answer, CAPTIONS_WORKSPACE_TOO_SHORT, 0);
+}
+
+static void check_job_refusals(void)
+{
+    struct call c = good_call();
+    check_open_refused(&c, 0, CAPTIONS_STRIPES_UNFIT, 0);
+    new_record(0);
+    check_work_refused(&c, 0, CAPTIONS_STRIPES_UNFIT, 0);
+
+    new_record(STRIPE_HEIGHT);
+    check_work_refused(&c, STRIPES, CAPTIONS_NO_SUCH_STRIPE, 0);
+    record[1] = GREETING_LETTERS * 9 + 1;
+    check_work_refused(&c, 0, CAPTIONS_COUNTERS_UNSOUND, 0);
+    record[1] = 0;
+    record[1 + STRIPES] = 1;
+    check_work_refused(&c, 0, CAPTIONS_COUNTERS_UNSOUND, 0);
+
+    c.settings.width = 8;
+    c.settings.height = CAPTIONS_STRIPES_MAX + 1;
+    check_open_refused(&c, 1, CAPTIONS_STRIPES_UNFIT, 0);
+    c.settings.height = CAPTIONS_STRIPES_MAX;
+    check(captions_refused(open_job(&c, 1)) == 0, "Open: as many stripes as may be");
+    check(work(&c, CAPTIONS_STRIPES_MAX - 1, BUDGET) == BUDGET, "Work: on the last of them");
+    check(record[CAPTIONS_RECORD_WORDS - 1] == BUDGET, "Work: its counter ends the record");
+}
+
+int main(void)
+{
+    check_wrap();
+    check_draw();
+    check_alignments();
+    check_job();
+    check_empty();
+    check_tape_refusals();
+    check_setting_refusals();
+    check_length_refusals();
+    check_job_refusals();
+    if (failed > 0) {
+        fprintf(stderr, "%d checks failed\n", failed);
+        return 1;
+    }
+    printf("%d checks passed\n", passed);
+    return 0;
+}

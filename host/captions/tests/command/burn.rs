@@ -1,0 +1,231 @@
+//! `captions burn`.
+
+use crate::run::run;
+use captions::{Align, Settings, Workspace, draw};
+
+/// Two lines, letters of the default color and others.
+const CUE: &[u8] = b"\x02H\x02i\x05\x08\x20\xc0\x40\x02y\x02o\x02u\x00\x02!";
+
+/// The file that is due.
+fn due(settings: &Settings, tape: &[u8]) -> Vec<u8> {
+    let Settings { width, height, .. } = settings;
+    let mut picture = settings.new_picture();
+    draw(settings, tape, &mut Workspace::new(), &mut picture).expect("an admitted cue");
+    let header = format!(
+        "P7\nWIDTH {width}\nHEIGHT {height}\nDEPTH 4\nMAXVAL 255\nTUPLTYPE RGB_ALPHA\nENDHDR\n"
+    );
+    [header.as_bytes(), &picture].concat()
+}
+
+fn burnt(words: &[&str]) -> Vec<u8> {
+    run(&[&["burn"], words].concat(), CUE).done()
+}
+
+fn settings() -> Settings {
+    Settings::new(640, 360)
+}
+
+#[test]
+fn burns_what_draw_draws() {
+    assert!(burnt(&[]) == due(&settings(), CUE));
+    assert!(run(&["burn"], b"").done() == due(&settings(), b""));
+    let small = Settings {
+        width: 61,
+        height: 47,
+        default_color: [1, 2, 3, 128],
+        outline_color: [250, 0, 90, 77],
+        line_height_px: 17,
+        bottom_margin_px: 4,
+        outline_px: 2,
+        align: Align::Right,
+    };
+    let words = "--width 61 --height 47 --default-color 01020380 --outline-color FA005A4D \
+        --line-height 17 --bottom-margin 4 --outline 2 --align right";
+    let words: Vec<&str> = words.split_whitespace().collect();
+    assert!(burnt(&words) == due(&small, CUE));
+}
+
+#[test]
+fn takes_frames_without_pixels() {
+    for (width, height) in [("0", "9"), ("9", "0"), ("0", "0")] {
+        let file = burnt(&["--width", width, "--height", height]);
+        let header = format!("P7\nWIDTH {width}\nHEIGHT {height}\nDEPTH 4\n");
+        assert!(file.starts_with(header.as_bytes()) && file.ends_with(b"ENDHDR\n"));
+    }
+}
+
+/// Holds an option with a value to the one change that it makes, which has to show.
+#[track_caller]
+fn sets(name: &str, value: &str, change: impl Fn(&mut Settings)) {
+    let mut changed = settings();
+    change(&mut changed);
+    let frame = due(&changed, CUE);
+    let shows = frame != due(&settings(), CUE);
+    assert_eq!(shows, changed != settings(), "{name} {value}");
+    assert!(burnt(&[name, value]) == frame, "{name} {value}");
+    let word = format!("{name}={value}");
+    assert!(burnt(&[&word]) == frame, "{word}");
+}
+
+#[test]
+fn each_option_sets_its_setting_alone() {
+    sets("--width", "200", |settings| settings.width = 200);
+    sets("--height", "100", |settings| settings.height = 100);
+    sets("--line-height", "40", |settings| {
+        settings.line_height_px = 40
+    });
+    sets("--bottom-margin", "3", |settings| {
+        settings.bottom_margin_px = 3
+    });
+    sets("--bottom-margin", "4294967295", |settings| {
+        settings.bottom_margin_px = u32::MAX;
+    });
+    sets("--outline", "0", |settings| settings.outline_px = 0);
+    sets("--outline", "2", |settings| settings.outline_px = 2);
+    sets("--outline", "4294967295", |settings| {
+        settings.outline_px = u32::MAX
+    });
+}
+
+#[test]
+fn colors_are_hexadecimal() {
+    let cases = [
+        ("102030", [0x10, 0x20, 0x30, 0xff]),
+        ("#a0B0c0", [0xa0, 0xb0, 0xc0, 0xff]),
+        ("01020384", [1, 2, 3, 0x84]),
+        ("#FFEEDD80", [0xff, 0xee, 0xdd, 0x80]),
+    ];
+    for (value, color) in cases {
+        sets("--default-color", value, |settings| {
+            settings.default_color = color
+        });
+        sets("--outline-color", value, |settings| {
+            settings.outline_color = color
+        });
+    }
+}
+
+#[test]
+fn lines_stand_where_they_are_aligned() {
+    let cases = [
+        ("left", Align::Left),
+        ("start", Align::Start),
+        ("right", Align::Right),
+        ("end", Align::End),
+        ("center", Align::Center),
+        ("centre", Align::Center),
+    ];
+    for (value, align) in cases {
+        sets("--align", value, |settings| settings.align = align);
+    }
+}
+
+#[test]
+fn the_last_of_an_option_counts() {
+    assert!(
+        burnt(&[
+            "--width",
+            "9",
+            "--width=640",
+            "--align",
+            "left",
+            "--align=center"
+        ]) == burnt(&[])
+    );
+}
+
+#[test]
+fn stripes_make_the_same_frame() {
+    let size = ["--width", "80", "--height", "50"];
+    let whole = burnt(&size);
+    for stripes in ["1", "7", "16", "49", "50", "51", "4294967295"] {
+        let striped = |more: &[&str]| burnt(&[&size[..], &["--stripes", stripes], more].concat());
+        assert!(striped(&[]) == whole, "{stripes}");
+        assert!(striped(&["--budget", "1"]) == whole, "{stripes}");
+        assert!(striped(&["--budget=5"]) == whole, "{stripes}");
+        assert!(striped(&["--budget", "4294967295"]) == whole, "{stripes}");
+    }
+}
+
+#[test]
+fn a_frame_has_none_to_64_stripes() {
+    let none = burnt(&["--height", "0"]);
+    assert!(burnt(&["--height", "0", "--stripes", "3", "--budget", "2"]) == none);
+    let low = burnt(&["--height", "64"]);
+    assert!(burnt(&["--height", "64", "--stripes", "1"]) == low);
+}
+
+#[test]
+fn shows_progress_at_a_terminal_alone() {
+    // Long enough for some; standard error, a pipe here, has to stay empty.
+    let tape = b"\x02W\x02i".repeat(100);
+    let words = [
+        "burn",
+        "--width",
+        "1000",
+        "--stripes",
+        "18",
+        "--budget",
+        "1",
+    ];
+    assert!(run(&words, &tape).done() == run(&words[..3], &tape).done());
+}
+
+#[test]
+fn names_the_settings_out_of_range() {
+    let cases = [
+        ("--width", "4097", 4096),
+        ("--height", "4294967295", 4096),
+        ("--line-height", "1025", 1024),
+    ];
+    for (name, value, most) in cases {
+        let message = format!("refused 8: {name} is {value}, and its range is 0 to {most}");
+        run(&["burn", name, value], CUE).failed(1, "", &message);
+        // The settings come before the tape and the stripes.
+        run(&["burn", name, value, "--stripes", "0"], b"\x06").failed(1, "", &message);
+    }
+    let message = "refused 8: --width is 5000, and its range is 0 to 4096; \
+        --line-height is 2000, and its range is 0 to 1024";
+    run(&["burn", "--line-height", "2000", "--width", "5000"], CUE).failed(1, "", message);
+}
+
+#[test]
+fn takes_settings_at_the_end_of_their_ranges() {
+    for (name, value) in [
+        ("--width", "4096"),
+        ("--height", "4096"),
+        ("--line-height", "1024"),
+    ] {
+        run(&["burn", name, value], CUE).done();
+    }
+}
+
+#[test]
+fn says_how_high_stripes_may_be() {
+    let message = "refused 13: --stripes is 0, and a stripe has a row at least";
+    run(&["burn", "--stripes", "0"], CUE).failed(1, "", message);
+    let message = "refused 13: --stripes 5 cuts 360 rows into 72 stripes, and 64 are the most: \
+        take 6 or more";
+    run(&["burn", "--stripes", "5"], CUE).failed(1, "", message);
+    assert!(burnt(&["--stripes", "6"]) == burnt(&[]));
+}
+
+#[test]
+fn refused_tapes_leave_nothing() {
+    let longer = [0x01; 16_385];
+    let cases: [(&[u8], &str); 3] = [
+        (
+            b"\x06",
+            "refused 3 at byte 1: the tape ends in the list that byte 0 opened",
+        ),
+        (
+            b"\x02A\x03\xd8\x00",
+            "refused 4 at byte 2: the code point D800 is a surrogate",
+        ),
+        (&longer, "refused 10: the tape has more than 16384 bytes"),
+    ];
+    for (tape, message) in cases {
+        run(&["burn"], tape).failed(1, "", message);
+        run(&["burn", "--stripes", "100"], tape).failed(1, "", message);
+    }
+}

@@ -1,0 +1,9 @@
+//! The command `captions`, run as a user runs it.
+
+mod burn;
+mod lines;
+mod run;
+mod show;
+mod status;
+mod text;
+mod usage;

@@ -1,0 +1,63 @@
+//! What the tests share.
+#![allow(dead_code)] // each test file uses some of it
+
+use captions::{Align, Settings};
+
+/// What buffers hold before a call.
+pub const PAINT: u8 = 0xA5;
+
+/// A text's letters as a tape, each in the shortest command that holds it; a newline is a break.
+pub fn tape(text: &str) -> Vec<u8> {
+    text.chars().flat_map(command).collect()
+}
+
+fn command(letter: char) -> Vec<u8> {
+    let [_, high, middle, low] = u32::from(letter).to_be_bytes();
+    match u32::from(letter) {
+        0x0A => vec![5],
+        0..=0xFF => vec![2, low],
+        0x100..=0xFFFF => vec![3, middle, low],
+        _ => vec![4, high, middle, low],
+    }
+}
+
+/// A picture of so many pixels with letters at the left, white, without an outline.
+pub fn plain(width: u32, height: u32) -> Settings {
+    Settings {
+        line_height_px: 16,
+        bottom_margin_px: 0,
+        outline_px: 0,
+        align: Align::Left,
+        ..Settings::new(width, height)
+    }
+}
+
+/// A buffer as long as the picture and so many bytes more, painted.
+pub fn painted(settings: &Settings, more: usize) -> Vec<u8> {
+    vec![PAINT; settings.new_picture().len() + more]
+}
+
+/// A small generator (splitmix64): a seed gives the same numbers everywhere.
+pub struct Random(pub u64);
+
+impl Random {
+    pub fn next(&mut self) -> u64 {
+        self.0 = self.0.wrapping_add(0x9E37_79B9_7F4A_7C15);
+        let mixed = (self.0 ^ (self.0 >> 30)).wrapping_mul(0xBF58_476D_1CE4_E5B9);
+        let mixed = (mixed ^ (mixed >> 27)).wrapping_mul(0x94D0_49BB_1331_11EB);
+        mixed ^ (mixed >> 31)
+    }
+
+    /// A number under this one.
+    pub fn under(&mut self, limit: u32) -> u32 {
+        (self.next() % u64::from(limit)) as u32
+    }
+
+    pub fn one_in(&mut self, count: u32) -> bool {
+        self.under(count) == 0
+    }
+
+    pub fn color(&mut self) -> [u8; 4] {
+        (self.next() as u32).to_be_bytes()
+    }
+}

@@ -1,0 +1,213 @@
+//! Open and Work by the wrapper.
+
+mod common;
+
+use captions::{Job, Refusal, Settings, Workspace, draw};
+use common::{PAINT, Random, painted, plain, tape};
+
+const AFTER: usize = 8;
+
+/// Two lines that cross the stripes below, with an outline: 9 strokes a letter.
+fn cue() -> (Settings, Vec<u8>, u32) {
+    let settings = Settings {
+        outline_px: 1,
+        ..plain(48, 41)
+    };
+    (settings, tape("ab\ncde"), 5 * 9)
+}
+
+fn drawn(settings: &Settings, tape: &[u8]) -> Vec<u8> {
+    let mut picture = painted(settings, AFTER);
+    draw(settings, tape, &mut Workspace::new(), &mut picture).expect("it is admitted");
+    picture
+}
+
+/// Does the job's next strokes on a stripe until so many are done.
+fn work_to(job: &mut Job, stripe: u32, count: u32) {
+    let budget = count - job.done(stripe);
+    let done = job.work(&mut Workspace::new(), stripe, budget);
+    assert_eq!(done, Ok(budget));
+    assert_eq!(job.done(stripe), count);
+}
+
+#[test]
+fn an_open_job_has_done_nothing() {
+    let (settings, tape, total) = cue();
+    let mut picture = painted(&settings, AFTER);
+    let job = Job::open(&settings, &tape, &mut Workspace::new(), &mut picture, 8).unwrap();
+    assert_eq!(job.total(), total);
+    assert_eq!(job.stripe_height(), 8);
+    assert_eq!(job.stripes(), 6); // five of 8 rows, and one of 1
+    assert!((0..70).all(|stripe| job.done(stripe) == 0));
+    let (cleared, after) = job.picture().split_at(48 * 41 * 4);
+    assert!(cleared.iter().all(|&byte| byte == 0));
+    assert_eq!(after, [PAINT; AFTER]);
+}
+
+#[test]
+fn stripes_are_counted() {
+    let stripes = |height, stripe_height| {
+        let settings = plain(1, height);
+        let mut picture = settings.new_picture();
+        let job = Job::open(
+            &settings,
+            &[],
+            &mut Workspace::new(),
+            &mut picture,
+            stripe_height,
+        );
+        job.map(|job| job.stripes())
+    };
+    assert_eq!(stripes(64, 1), Ok(64));
+    assert_eq!(stripes(65, 2), Ok(33));
+    assert_eq!(stripes(4096, 64), Ok(64));
+    assert_eq!(stripes(5, u32::MAX), Ok(1));
+    assert_eq!(stripes(0, 1), Ok(0));
+}
+
+#[test]
+fn work_draws_on_its_own_stripe_alone() {
+    let (settings, tape, total) = cue();
+    let whole = drawn(&settings, &tape);
+    let (row, size) = (48 * 4, 48 * 41 * 4);
+    for stripe in 0..6 {
+        let mut picture = painted(&settings, AFTER);
+        let mut job = Job::open(&settings, &tape, &mut Workspace::new(), &mut picture, 8).unwrap();
+        assert_eq!(job.work(&mut Workspace::new(), stripe, u32::MAX), Ok(total));
+        let done = (0..64).filter(|&other| job.done(other) > 0);
+        assert_eq!(done.collect::<Vec<u32>>(), [stripe]);
+        assert_eq!(job.done(stripe), total);
+
+        let from = stripe as usize * 8 * row;
+        let to = size.min(from + 8 * row);
+        let mut due = vec![0; size];
+        due[from..to].copy_from_slice(&whole[from..to]);
+        due.extend([PAINT; AFTER]);
+        assert_eq!(picture, due);
+    }
+    assert!(whole[8 * row..16 * row].iter().any(|&byte| byte != 0));
+}
+
+#[test]
+fn a_budget_is_spent_until_nothing_is_left() {
+    let (settings, tape, total) = cue();
+    let mut picture = settings.new_picture();
+    let mut job = Job::open(&settings, &tape, &mut Workspace::new(), &mut picture, 16).unwrap();
+    let mut work = |budget| job.work(&mut Workspace::new(), 1, budget);
+    assert_eq!(work(0), Ok(0));
+    assert_eq!(work(20), Ok(20));
+    assert_eq!(work(20), Ok(20));
+    assert_eq!(work(20), Ok(total - 40));
+    assert_eq!(work(u32::MAX), Ok(0));
+    assert_eq!(job.done(1), total);
+}
+
+/// What any calls leave is told by the counters alone, and once all is done it is what Draw leaves.
+#[test]
+fn a_job_stopped_anywhere_and_then_finished_is_draw() {
+    let (settings, tape, total) = cue();
+    let due = drawn(&settings, &tape);
+    let mut random = Random(1);
+    for stop in 0..60 {
+        let stripe_height = 1 + random.under(45);
+        let workspace = &mut Workspace::new();
+        let mut first = painted(&settings, AFTER);
+        let mut job = Job::open(&settings, &tape, workspace, &mut first, stripe_height).unwrap();
+        for _ in 0..stop {
+            let stripe = random.under(job.stripes());
+            let left = total - job.done(stripe);
+            let budget = random.under(12);
+            assert_eq!(job.work(workspace, stripe, budget), Ok(budget.min(left)));
+        }
+
+        let mut second = painted(&settings, AFTER);
+        let mut other = Job::open(&settings, &tape, workspace, &mut second, stripe_height).unwrap();
+        for stripe in 0..job.stripes() {
+            work_to(&mut other, stripe, job.done(stripe));
+        }
+        assert_eq!(job.picture(), other.picture());
+
+        for stripe in 0..job.stripes() {
+            work_to(&mut job, stripe, total);
+        }
+        assert_eq!(job.picture(), due);
+    }
+}
+
+#[test]
+fn strokes_one_by_one_change_the_picture_bit_by_bit() {
+    let settings = plain(48, 16);
+    let tape = tape("HHH");
+    let mut picture = settings.new_picture();
+    let mut job = Job::open(&settings, &tape, &mut Workspace::new(), &mut picture, 16).unwrap();
+    for letters in 1..=3 {
+        let before = job.picture().to_vec();
+        assert_eq!(job.work(&mut Workspace::new(), 0, 1), Ok(1));
+        let changed = (0..before.len()).filter(|&at| before[at] != job.picture()[at]);
+        let columns: Vec<usize> = changed.map(|at| at / 4 % 48).collect();
+        assert!(!columns.is_empty());
+        assert!(columns.iter().all(|column| column / 8 == letters));
+    }
+    assert_eq!(job.picture(), &drawn(&settings, &tape)[..48 * 16 * 4]);
+}
+
+#[test]
+fn refused_work_leaves_picture_and_counters() {
+    let (settings, tape, _) = cue();
+    let mut picture = painted(&settings, AFTER);
+    let mut job = Job::open(&settings, &tape, &mut Workspace::new(), &mut picture, 8).unwrap();
+    work_to(&mut job, 3, 30);
+    let before = job.picture().to_vec();
+    for stripe in [6, 63, 64, 65, u32::MAX] {
+        let answer = job.work(&mut Workspace::new(), stripe, 7);
+        assert_eq!(
+            answer,
+            Err(Refusal {
+                number: 12,
+                place: 0
+            })
+        );
+    }
+    assert_eq!(job.picture(), before);
+    let done: Vec<u32> = (0..7).map(|stripe| job.done(stripe)).collect();
+    assert_eq!(done, [0, 0, 0, 30, 0, 0, 0]);
+    assert_eq!(job.done(u32::MAX), 0);
+}
+
+#[test]
+fn a_refused_open_leaves_the_picture() {
+    let settings = plain(20, 65);
+    let mut picture = painted(&settings, AFTER);
+    let mut refused = |tape: &[u8], stripe_height| {
+        let job = Job::open(
+            &settings,
+            tape,
+            &mut Workspace::new(),
+            &mut picture,
+            stripe_height,
+        );
+        job.map(|job| job.total()).unwrap_err()
+    };
+    assert_eq!(
+        refused(&[2, b'A'], 0),
+        Refusal {
+            number: 13,
+            place: 0
+        }
+    );
+    assert_eq!(
+        refused(&[2, b'A'], 1),
+        Refusal {
+            number: 13,
+            place: 0
+        }
+    );
+    assert_eq!(
+        refused(&[2, b'A', 12], 2),
+        Refusal {
+            number: 1,
+            place: 2
+        }
+    );
+    assert_eq!(picture, painted(&settings, AFTER));
+}
