@@ -1,17 +1,17 @@
 -- What calls of Open and Work come to.
 use mathlib.Core.Path.{_≡_, _∙_, refl, sym, ap, subst}
 use mathlib.Core.Bool.{Bool, true, false, not, true≢false}
-use mathlib.Core.List.{List}
+use mathlib.Core.List.{List, _++_}
 use Prim.Native.Nat.{ℕ, _+_, _-_, _≤_, min}
-use lib.ListN.{length, take, drop, set, length-take, length-drop, take-append-drop}
+use lib.ListN.{length, take, drop, set, replicate, length-take, length-drop, take-append-drop}
 use lib.Seq.{slice, length-take-le, take-append-seam, take-add, drop-at}
 use Rattle.tape.specs.Outcome.{Outcome, accepted, refused, refuseIf, andThen}
 use Rattle.compositor.specs.declared.Settings.{Settings}
 use Rattle.compositor.specs.declared.Answer.{Answer}
 use Rattle.compositor.specs.declared.job.JobRecord.{JobRecord}
 use Rattle.compositor.specs.declared.job.JobAnswer.{JobAnswer}
+use Rattle.compositor.specs.Settings.{pictureBytes}
 use Rattle.compositor.specs.Strokes.{Stroke}
-use Rattle.compositor.specs.Picture.{cleared}
 use Rattle.compositor.specs.Drawn.{answerOf, keepsWorkspace, Left}
 use Rattle.compositor.specs.Stripes.{hasStripe, counterOf, countersUnsound}
 use Rattle.compositor.specs.Work.{openCall, newRecord, openRecord, openPicture, stripeCall, workCall, workRecord, workPicture, onStripe}
@@ -38,11 +38,12 @@ module _ (s : Settings) (tape ws ws' picture : List ℕ) (h : ℕ) where
       → Opened s tape ws ws' picture picture h (record { answer = Answer.Refused number place; job = newRecord 0 })
   not-opened {number} {place} e l = comes-to (refused number place) e refl l
 
-  pub did-open : {picture' : List ℕ} {ts : List Stroke} (total : ℕ) → call ≡ accepted ts → total ≡ length ts → picture' ≡ cleared s picture
+  pub did-open : {picture' : List ℕ} {ts : List Stroke} (total size : ℕ) → call ≡ accepted ts → total ≡ length ts → size ≡ pictureBytes s
+      → picture' ≡ replicate size 0 ++ drop size picture
       → Opened s tape ws ws' picture picture' h (record { answer = Answer.Strokes total; job = newRecord h })
-  did-open {picture'} {ts} total e t p =
+  did-open {picture'} {ts} total size e t z p =
       subst (λ (n : ℕ). Opened s tape ws ws' picture picture' h (record { answer = Answer.Strokes n; job = newRecord h })) (sym t)
-      (comes-to (accepted ts) e p tt)
+      (comes-to (accepted ts) e (p ∙ ap (λ (n : ℕ). replicate n 0 ++ drop n picture) z) tt)
 
 -- ---- Work, where the caption has the strokes ts
 

@@ -1,5 +1,6 @@
 use Rattle.compositor.proofs.Admitted.{open-admitted}
 use Rattle.compositor.proofs.Jobs.{not-opened, did-open}
+use native.Mathlib.Omega.{arith}
 use borrow.Author.Needs.{needs}
 use Rattle.compositor.proofs.job.open.Statement.{statement}
 use Rattle.compositor.proofs.job.open.Tie as tie
@@ -21,7 +22,8 @@ clear-requires c κs =
     let after-total = c .before .before .before in
     let after-read-job = after-total .before .before .before .before in
     let r = rw (after-total .total .given .1) at (after-read-job .read-job .ensures) in
-    rw (c .before .picture-bytes .ensures) (open-admitted _ _ _ _ _ (r .1) .admitted .fits)
+    let fits = open-admitted _ _ _ _ _ (r .1) .admitted .fits in
+    omega (arith, fits, c .before .picture-bytes .ensures)
 
 new-requires : tie.Need-new-requires
 new-requires c κs = search needs
@@ -46,7 +48,7 @@ returns c =
     let after-read-job = after-total .before .before .before .before in
     let r = rw (after-total .total .given .1) at (after-read-job .read-job .ensures) in
     rw (c .new .ensures)
-    (did-open _ _ _ _ _ _ _ (r .1) (r .0 .total-is) (rw (after-picture-bytes .picture-bytes .ensures) at (after-clear .clear .ensures)))
+    (did-open _ _ _ _ _ _ _ _ (r .1) (r .0 .total-is) (after-picture-bytes .picture-bytes .ensures) (after-clear .clear .ensures))
 
 same-length-3 : tie.Need-same-length-3
 same-length-3 c = search needs
