@@ -1,4 +1,4 @@
--- What the functions for C mean, over the definitions of the calls. Definitions only.
+-- What the functions mean that programs written in the languages C and Rust call, over the definitions of the calls. Definitions only.
 use mathlib.Core.Path.{_≡_}
 use mathlib.Core.List.{List, _∷_}
 use Prim.Native.Nat.{ℕ, _+_, _*_, _^_}
@@ -13,7 +13,7 @@ use Rattle.compositor.specs.Draw.{drawCall, drawPicture}
 use Rattle.compositor.specs.Drawn as Drawn
 use Rattle.compositor.specs.Work.{openCall, openRecord, openPicture, workCall, workRecord, workPicture}
 
--- an answer as one number: itself, or 2^32 times a refusal's number and its place
+-- an answer as one number: itself, or the sum of a refusal's place and 2^32 times its number
 abbrev pub packed : Outcome ℕ → ℕ
 packed (accepted n) = n
 packed (refused number place) = number * 2 ^ 32 + place

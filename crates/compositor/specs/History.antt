@@ -1,5 +1,5 @@
--- DEMAND 3: one claim about an accepted Open and every list of Work calls after it, refused ones among them. `Demand3`, at the end, is the
--- claim, and it is proved. Calls are told by the records that are the contracts of Open and Work. Definitions only.
+-- WHAT ANY LIST OF CALLS LEAVES: one claim about an accepted Open and every list of Work calls after it, refused ones among them. `Demand3`, at
+-- the end, is the claim, the third that was demanded of the program, and it is proved. Calls are told by the records that are the contracts of Open and Work. Definitions only.
 use mathlib.Core.Path.{_≡_}
 use mathlib.Core.Bool.{false, cond}
 use mathlib.Core.List.{List, [], _∷_}
@@ -82,7 +82,7 @@ pub record PartlyDrawn
   pub past : (k : ℕ) → hasStripe s h k ≡ false → counterOf job k ≡ 0
   pub answered : Answered s ts h calls
 
--- DEMAND 3
+-- the claim
 abbrev pub Demand3 : Type 0
 Demand3 =
     (s : Settings) (tape : List ℕ) (h : ℕ) (bytes : List ℕ) (calls : List Call) (picture : List ℕ) (job : JobRecord)

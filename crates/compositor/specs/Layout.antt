@@ -11,11 +11,11 @@ use Rattle.compositor.specs.declared.Settings.{Settings}
 abbrev pub columnLimit : Settings → ℕ
 columnLimit s = max 1 (s .width / cellW)
 
--- h
+-- h, the pixels from one base line to the next
 abbrev pub lineHeight : Settings → ℕ
 lineHeight s = max (s .«line_height_px») cellH
 
--- the picture's row on which the last line's base line stands; each subtraction stops at 0
+-- the picture's row on which the last line's base line stands, 4 rows above the bottom margin; each subtraction stops at 0
 abbrev pub lastBaseLine : Settings → ℕ
 lastBaseLine s = s .height - s .«bottom_margin_px» - min (cellH - bearingY) cellH
 
@@ -31,7 +31,7 @@ sideMargin = 8
 abbrev pub lineWidth : ℕ → ℕ
 lineWidth columns = columns * cellW
 
--- Where a line of w pixels starts. In the centre that is half of what is left, towards zero: of the two quotients one is 0, the first where
+-- Where a line of w pixels starts: left and start alike, and right and end alike. In the centre that is half of what is left, towards zero: of the two quotients one is 0, the first where
 -- the line is the wider, the second where the picture is.
 unfoldable pub lineStart : Settings → ℕ → ℕ
 lineStart s w =

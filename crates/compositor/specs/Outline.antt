@@ -5,7 +5,7 @@ use Prim.Native.Nat.{ℕ, zero, suc, _+_, _-_, _*_, min, max}
 use lib.Dec.{eqb}
 use Rattle.compositor.specs.declared.Settings.{Settings}
 
--- o, the outline as it is drawn
+-- o, how many pixels of outline are drawn
 abbrev pub mostOutline : ℕ
 mostOutline = 2
 

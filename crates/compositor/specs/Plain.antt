@@ -1,5 +1,5 @@
--- Document 01's formulas for places as they stand there, in signed numbers counted from the picture's corner. It is proved that
--- `lineStart` and `baseLine` are these, counted from the origin. Definitions only.
+-- Places in signed numbers, counted from the picture's corner: document 01, "Places and strokes", first paragraph.
+-- It is proved that `lineStart` and `baseLine` are these, counted from the origin. Definitions only.
 use mathlib.Core.Bool.{cond}
 use Prim.Native.Nat.{ℕ, _*_, _/_, suc}
 use lib.Dec.{eqb, leb}

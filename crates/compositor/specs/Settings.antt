@@ -1,6 +1,5 @@
 -- The settings: document 01, "Settings". Definitions only.
--- Width and height in pixels; the default color and the outline's, each red, green, blue, alpha; line height, bottom margin and outline
--- in pixels; and the alignment: 0 centre, 1 left, 2 start, 3 right, 4 end.
+-- A call may be given any numbers below 2^32; `outOfRange` says which are refused.
 use mathlib.Core.Bool.{Bool, _||_}
 use Prim.Native.Nat.{ℕ, _*_}
 use lib.Dec.{ltb}

@@ -28,11 +28,11 @@ hasStripe s h k = ltb (firstRow h k) (s .height)
 abbrev pub stripesUnfit : Settings → ℕ → Bool
 stripesUnfit s h = eqb h 0 || hasStripe s h mostStripes
 
--- c, the counter of stripe k
+-- the counter of stripe k
 abbrev pub counterOf : JobRecord → ℕ → ℕ
 counterOf job k = getD (job .counters) k 0
 
--- 14: of counters from stripe k on, one is over T, or not 0 past the last stripe
+-- 14: of counters from stripe k on, one is over `total`, the number T of the caption's strokes, or is not 0 past the last stripe
 unfoldable pub countersUnsound : Settings → ℕ → ℕ → ℕ → List ℕ → Bool
 countersUnsound s h total k [] = false
 countersUnsound s h total k (c ∷ cs) = ltb (cond (hasStripe s h k) total 0) c || countersUnsound s h total (suc k) cs

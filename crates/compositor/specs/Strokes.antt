@@ -13,7 +13,7 @@ use Rattle.compositor.specs.declared.Settings.{Settings}
 use Rattle.compositor.specs.Layout.{columnLimit, baseLine, lineWidth, lineStart}
 use Rattle.compositor.specs.Outline.{outlineOf, ring}
 
--- a stroke: a glyph's sixteen rows and the offsets by which the pen moves them, a color, and the places of the glyph's left column and of
+-- a stroke: a glyph's sixteen rows and the offsets by which they are moved, a color, and the places of the glyph's left column and of
 -- its base line
 pub record Stroke : Type 0 where
   pub glyph : List ℕ
@@ -25,7 +25,7 @@ pub record Stroke : Type 0 where
 abbrev pub stroke : List ℕ → List ℕ → List ℕ → ℕ → ℕ → Stroke
 stroke glyph offsets k x base = record { glyph = glyph; offsets = offsets; color = k; x = x; base = base }
 
--- a glyph's strokes in the color k of an outline, at the offsets ds, which are o larger than they are
+-- a glyph's strokes in the color k of an outline, at the offsets ds; each is written o larger than it is, so o is taken off
 abbrev pub outlineStrokes : List ℕ → List ℕ → List ℕ → ℕ → ℕ → ℕ → List (ℕ × ℕ) → List Stroke
 outlineStrokes glyph offsets k o x base ds = map (λ d. stroke glyph offsets k (x + d .0 - o) (base + d .1 - o)) ds
 
@@ -44,7 +44,7 @@ module _ (s : Settings) where
       let t = l .style in
       glyphStrokes (glyphRows (tableOf (t .bold)) (l .code)) (rowOffsets (t .italic)) (s .«outline_color») (colorOf t) (outlineOf s) x base
 
-  -- the strokes of letters on a line, the first at place x: each advances cell_w, controls too
+  -- the strokes of letters on a line, the first at place x: each advances cellW, controls too
   unfoldable pub lineStrokes : ℕ → ℕ → List Letter → List Stroke
   lineStrokes x base [] = []
   lineStrokes x base (l ∷ ls) = letterStrokes l x base ++ lineStrokes (x + cellW) base ls
@@ -56,6 +56,6 @@ module _ (s : Settings) where
       lineStrokes (lineStart s (lineWidth (visibleCols ls line))) (baseLine s (length below)) (map (letterOf ls) line)
       ++ linesStrokes ls below
 
-  -- the strokes of a caption's letters, and T, how many they are
+  -- the strokes of a caption's letters; T is how many they are
   unfoldable pub drawing : List Letter → List Stroke
   drawing ls = linesStrokes ls (wrapRuns ls (columnLimit s))

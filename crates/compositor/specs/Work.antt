@@ -40,7 +40,7 @@ openPicture s bytes (refused number place) = bytes
 -- ---- Work
 
 -- What Work on stripe k with budget n comes to, where the caption has the strokes ts: 14, 12, or the strokes that it does. They are the
--- strokes from number c on, c the stripe's counter: n of them, or as many as are left. So they are m = min(n, T − c).
+-- strokes from number c on, c the stripe's counter: n of them, or as many as are left, so that they are min(n, T − c).
 unfoldable pub stripeCall : Settings → JobRecord → ℕ → ℕ → List Stroke → Outcome (List Stroke)
 stripeCall s job k n ts =
     let h = job .«stripe_height» in

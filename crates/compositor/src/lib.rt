@@ -30,7 +30,7 @@ const LAST_ALIGN: u32 = 4;
 const MOST_OUTLINE: u32 = 2;
 
 // How captions are drawn: sizes in pixels; colors are red, green, blue, alpha; `align` is 0 centre,
-// 1 left, 2 start, 3 right, 4 end.
+// 1 left, 2 start, which is as left, 3 right, 4 end, which is as right.
 pub struct Settings {
     pub width: u32,
     pub height: u32,

@@ -5,7 +5,7 @@ use Prim.Native.Nat.{ℕ, _+_, _-_, _*_, _/_, _%_, _^_, min}
 use lib.Dec.{eqb}
 use lib.ListN.{getD, set}
 
--- the four bytes of a color that is written as the number 0xRRGGBBAA
+-- the four bytes of a color that is written as the number 0xRRGGBBAA, below 2^32
 abbrev pub colorBytes : ℕ → List ℕ
 colorBytes k = k / 2 ^ 24 ∷ k / 2 ^ 16 % 256 ∷ k / 2 ^ 8 % 256 ∷ k % 256 ∷ []
 
@@ -32,6 +32,6 @@ blendOver k i l =
     (i + 3)
     (blendAlpha a (getD l (i + 3) 0))
 
--- the same, where alpha 0 changes nothing
+-- the same, and plainly nothing where alpha is 0
 unfoldable pub blendPixel : List ℕ → ℕ → List ℕ → List ℕ
 blendPixel k i l = cond (eqb (getD k 3 0) 0) l (blendOver k i l)

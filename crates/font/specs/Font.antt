@@ -50,7 +50,7 @@ boldTable = map embolden regularTable
 abbrev pub tableOf : Bool → List ℕ
 tableOf b = cond b boldTable regularTable
 
--- the sixteen rows of `MISSING_GLYPH`
+-- the sixteen rows of the box
 abbrev pub missingRows : List ℕ
 missingRows = rowsOf cellH missing
 

@@ -1,5 +1,6 @@
 -- The glyphs, each once: document 01, "Glyph tables". Definitions only.
--- A glyph is one number of sixteen rows, two hexadecimal digits a row, the top row first; bit 7 of a row is its leftmost pixel.
+-- A glyph is one number of sixteen rows, two hexadecimal digits a row, the top row first; bit 7 of a row is its leftmost pixel. Some glyphs are
+-- the same number, and are meant to be: those of 0 and O, x and ×, ª and º.
 use mathlib.Core.List.{List, [], _∷_, _++_, map}
 use Prim.Native.Nat.{ℕ, _+_, _-_, _*_, _%_, _^_}
 use lib.ListN.{getD, replicate}
@@ -107,7 +108,7 @@ unfoldable pub letter : ℕ → ℕ
 unfolding printable
 letter c = getD printable (c - 0x21) 0
 
--- an accent: its rows 0 and 1. The ring of Å has a third row in the original's drawing, which never reaches the letter and so is none here.
+-- an accent: its rows 0 and 1. The ring of Å has no more than these either: it is not closed, and the same as the circumflex.
 abbrev grave : ℕ
 grave = 0x300c
 
@@ -244,6 +245,6 @@ unfoldable pub glyphs : List ℕ
 unfolding printable glyphOf latin1
 glyphs = replicate 33 0 ++ (printable ++ (replicate 34 0 ++ map glyphOf latin1))
 
--- `MISSING_GLYPH`, the hollow box of every code point from 256
+-- the hollow box of every code point from 256 on
 abbrev pub missing : ℕ
 missing = 0x00007e42_42424242_42424242_427e0000

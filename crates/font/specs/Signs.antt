@@ -1,4 +1,4 @@
--- WHAT THE LIBRARY'S SIGNS MEAN, as equations: claims, which are proved of the library that the definitions take them from. Definitions only.
+-- WHAT THE SIGNS OF THE NOTATION MEAN, as equations that hold of them. Definitions only.
 use mathlib.Core.Path.{_≡_}
 use mathlib.Core.Bool.{Bool, true, false, cond, not, _&&_, _||_, Bool·beq}
 use mathlib.Core.List.{List, [], _∷_, _++_, map, flatten}
@@ -13,7 +13,7 @@ pub record Numbers : Type 0 where
   -- a difference stops at 0
   pub minus : (a b : ℕ) → a + b - b ≡ a
   pub minus-more : (a b : ℕ) → b - (a + b) ≡ 0
-  -- a quotient is rounded down, and the remainder is what is left
+  -- a quotient is rounded down, and the remainder is what is left; nothing here divides by 0
   pub divided : (a b : ℕ) → a / b * b + a % b ≡ a
   pub remainder : (a b : ℕ) → 0 < b → a % b < b
   pub power-none : (a : ℕ) → a ^ 0 ≡ 1

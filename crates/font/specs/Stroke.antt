@@ -8,7 +8,8 @@ use lib.ListN.{length, getD, take, drop}
 use Rattle.font.specs.Font.{bearingY, cellW, cellH}
 use Rattle.font.specs.Blend.{blendPixel}
 
--- A place is counted from an origin so far left of and above the picture that it is never negative: the picture's column 0 and row 0 are at 2^26.
+-- A place, of a column or of a row, is counted from an origin so far left of and above the picture that it is never negative: the picture's
+-- column 0 and row 0 are at 2^26.
 abbrev pub origin : ℕ
 origin = 0x400_0000
 
@@ -38,7 +39,7 @@ abbrev pub paintRow : List ℕ → ℕ → ℕ → List ℕ → List ℕ
 paintRow k bits x row = paintColumns k bits x cellW row
 
 -- the picture's row y with what a stroke has there: the glyph's row r that falls on it, moved by its offset.
--- The stroke's left column is at place x and its base line at place base, so its row 0 is at place base − bearing_y.
+-- The stroke's left column is at place x and its base line at place base, so its row 0 is at place base − bearingY.
 unfoldable pub strokeRow : List ℕ → List ℕ → List ℕ → ℕ → ℕ → ℕ → List ℕ → List ℕ
 strokeRow glyph offsets k x base y row =
     let top = base - bearingY in

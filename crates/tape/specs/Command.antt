@@ -1,12 +1,12 @@
 -- The commands of a cue tape, and what is refused in one: document 01, "Tape" and "Who is stopped, and by what". Definitions only.
 -- A command is a byte, with operand bytes behind it, the high byte first:
 --   00  the end of a list or of a name
---   01  an empty text
---   02  a letter, its code point in 1 byte; 03 in 2 bytes; 04 in 3 bytes
---   05  a line break
+--   01  an empty text: it has no letter, and is a run all the same, which may part two others
+--   02  a letter, its code point (Unicode's) in 1 byte; 03 in 2 bytes; 04 in 3 bytes. Any of them that holds it will do
+--   05  a line break, which counts as a letter and stands on no line
 --   06  bold, 07 italic, 08 color (red, green, blue): each opens a list, up to its 00; and so does 0A, a plain group
---   09  a voice: letters up to a 00 are its name, and a list follows
---   0B  a time mark, which draws nothing
+--   09  a voice: letters up to a 00 are its name, which is shown with ": " behind it, and a list follows, up to its own 00
+--   0B  a time mark, which shows nothing
 use mathlib.Core.Bool.{Bool, cond, not, _&&_, _||_}
 use mathlib.Core.List.{List, [], _∷_}
 use Prim.Native.Nat.{ℕ, _+_, _*_}

@@ -12,7 +12,7 @@ use Rattle.tape.specs.Command.{deepest, mostLetters, isScalar}
 use Rattle.tape.specs.Runs.{Run, run}
 
 infixr 20 _then_
--- A segment, and a list of segments. `Raw` is a text; `Underline`, `Strike`, `Font`, `Class` and `Karaoke` are plain groups.
+-- A segment, and a list of segments. What is underlined, struck out or the like is a plain group.
 mutual
   pub data Segment : Type 0 where
     text : List ℕ → Segment

@@ -19,7 +19,7 @@ sameStyle a b =
     && (Bool·beq (a .italic) (b .italic)
     && (eqb (a .red) (b .red) && (eqb (a .green) (b .green) && (eqb (a .blue) (b .blue) && eqb (a .alpha) (b .alpha)))))
 
--- what opens a list of segments: a mark, a color's red, green and blue, or a plain group
+-- what opens a list: a mark, a color's red, green and blue, or a plain group
 pub data Opener : Type 0 where
   bold italic plain : Opener
   color : ℕ → ℕ → ℕ → Opener

@@ -60,8 +60,8 @@ abbrev pub unless : ℕ → ℕ → Outcome (List Run) → Outcome (List Run)
 unless zero place o = o
 unless (suc k) place o = refused (suc k) place
 
--- What bytes mean that stand at a place, counted from the tape's start, where n letters came before them.
--- The first `skip` bytes are operands, which the command before them has read.
+-- What the rest of a tape means: the bytes from a place on, counted from the tape's start, with n letters before it. Its first `skip` bytes are
+-- operands of the command before it, and are passed over.
 unfoldable pub read : ℕ → Frame → ℕ → ℕ → List ℕ → Outcome (List Run)
 read skip f place n [] = atEnd (f .around) (f .name) place
 read (suc skip) f place n (b ∷ rest) = read skip f (place + 1) n rest
@@ -79,7 +79,7 @@ tapeRuns s tape = onAccepted merge (read zero (frame s [] false) 0 0 tape)
 unfoldable pub tapeLetters : Style → List ℕ → Outcome (List Letter)
 tapeLetters s tape = onAccepted lettersOf (tapeRuns s tape)
 
--- the most bytes of a tape, and the least of a workspace
+-- the most bytes of a tape, and the least of the workspace that a call is lent
 abbrev pub mostBytes : ℕ
 mostBytes = 16384
 

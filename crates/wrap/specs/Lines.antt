@@ -176,7 +176,7 @@ isEmptyLine (k ∷ ks) = false
 unfoldable pub wrapRuns : List Letter → ℕ → List Line
 wrapRuns ls L = withoutLast isEmptyLine (map (trimTrailingSpace ls) (filled ls L .closed))
 
--- those of a line that are neither space, tab, break nor control: for the law that they are never lost
+-- those of a line that are neither space, tab, break nor control: it is proved that all of these stand on the lines, once each and in order
 unfoldable pub shown : List Letter → Line → Line
 shown ls [] = []
 shown ls (k ∷ ks) = cond (isShown (codeOf ls k)) (k ∷ shown ls ks) (shown ls ks)

@@ -63,7 +63,7 @@ pub fn gather(root: &Path) -> Result<String, String> {
     part::check_all_there(root, &parts)?;
     part::check_names(&parts, &notation)?;
     let text = [
-        read(root, PREFACE)?,
+        plain_headings(&read(root, PREFACE)?),
         contents(&parts),
         heading("Notation"),
         notation.clone(),
@@ -141,17 +141,19 @@ fn shown_part<'a>(
     let mut earlier = Vec::new();
     for (of, path) in part.declared() {
         let same = |declared: &&Declared| (declared.of, declared.path) == (of, path);
-        match shown.iter().find(same) {
-            Some(declared) => earlier.push(*declared),
-            None => {
-                declarations += &declared::show(root, of, path)?;
-                shown.push(Declared {
-                    of,
-                    path,
-                    part: part.source.file,
-                });
-            }
+        if let Some(declared) = shown.iter().find(same) {
+            earlier.push(*declared);
+            continue;
         }
+        let declaration = declared::show(root, of, path)?;
+        earlier.extend(
+            shown
+                .iter()
+                .filter(|declared| declared.is_in(of, &declaration)),
+        );
+        declarations += &declaration;
+        let part = part.source.file;
+        shown.push(Declared { of, path, part });
     }
     Ok(part.text(&declarations, &earlier))
 }
@@ -159,6 +161,20 @@ fn shown_part<'a>(
 fn heading(title: &str) -> String {
     let bar = "=".repeat(100);
     format!("\n{bar}\n{}\n{bar}\n\n", title.to_uppercase())
+}
+
+/// A text of Markdown with the headings that this one has.
+fn plain_headings(text: &str) -> String {
+    let lines = text.lines().map(|line| {
+        if let Some(title) = line.strip_prefix("# ") {
+            return heading(title).trim().to_owned() + "\n";
+        }
+        match line.strip_prefix("## ") {
+            Some(title) => format!("{title}\n{}\n", "-".repeat(title.len())),
+            None => format!("{line}\n"),
+        }
+    });
+    lines.collect()
 }
 
 /// The table of contents: each chapter with its parts.

@@ -8,6 +8,9 @@ use std::path::Path;
 /// The widest line that is made here.
 const COLUMNS: usize = 120;
 
+/// Said of names that are written with their part's name before them.
+const QUALIFIED: &str = "names written with its own before them";
+
 /// Where a part comes from: the chapter that it is of, its crate and its file.
 pub struct Source {
     pub chapter: &'static str,
@@ -39,6 +42,17 @@ pub struct Declared<'a> {
     pub part: &'a str,
 }
 
+impl Declared<'_> {
+    fn name(&self) -> &str {
+        self.path.last().map_or("", String::as_str)
+    }
+
+    /// Whether a declaration of a crate speaks of this type.
+    pub fn is_in(&self, of: &str, declaration: &str) -> bool {
+        self.of == of && signs::has_word(declaration, self.name())
+    }
+}
+
 pub struct Part {
     pub source: Source,
     /// What it is about.
@@ -50,7 +64,7 @@ pub struct Part {
 impl Part {
     pub fn new(source: Source, text: &str) -> Result<Part, String> {
         let comment = text.lines().take_while(|line| line.starts_with("--"));
-        let head = joined(comment).replace(" Definitions only.", "");
+        let head = joined(comment.map(without_paper)).replace(" Definitions only.", "");
         let used = text.lines().filter_map(|line| line.strip_prefix("use "));
         let uses = used.map(parse_use).collect::<Result<_, _>>()?;
         let rest = text
@@ -91,8 +105,9 @@ impl Part {
     fn taken(&self, earlier: &[Declared]) -> String {
         let declared = earlier
             .iter()
-            .filter_map(|declared| Some((declared.part, declared.path.last()?.as_str())));
+            .map(|declared| (declared.part, declared.name()));
         let used = self.uses.iter().flat_map(|used| match used {
+            Use::Part(from, names) if names.is_empty() => vec![(from.as_str(), QUALIFIED)],
             Use::Part(from, names) => names
                 .iter()
                 .map(|name| (from.as_str(), name.as_str()))
@@ -101,7 +116,10 @@ impl Part {
         });
         let mut taken: BTreeMap<&str, Vec<&str>> = BTreeMap::new();
         for (from, name) in declared.chain(used) {
-            taken.entry(from).or_default().push(name);
+            let names = taken.entry(from).or_default();
+            if !names.contains(&name) {
+                names.push(name);
+            }
         }
         let listed: Vec<_> = taken
             .iter()
@@ -156,6 +174,14 @@ fn parse_use(line: &str) -> Result<Use, String> {
     })
 }
 
+/// A line of a head without the paragraph of the paper that it names: readers have no such paper.
+fn without_paper(line: &str) -> String {
+    match line.split_once(": document 01, ") {
+        Some((title, _)) => format!("{title}."),
+        None => line.to_owned(),
+    }
+}
+
 /// Lines that tell the prover how to read the others.
 fn is_for_the_prover(line: &str) -> bool {
     let line = line.trim_start();
@@ -175,11 +201,13 @@ fn plain(line: &str) -> String {
     {
         text = rest;
     }
+    // Marks stand around names in definitions, and are letters in comments.
+    let (text, comment) = text.split_at(text.find("--").unwrap_or(text.len()));
     let text = text
         .replace(['«', '»'], "")
         .replace("Type 0", "Type")
         .replace(" {A = A}", "");
-    format!("{indent}{text}")
+    format!("{indent}{text}{comment}")
 }
 
 fn joined<T: AsRef<str>>(lines: impl Iterator<Item = T>) -> String {

@@ -1,8 +1,15 @@
 //! That no sign and no word stands in the text that a reader could not know.
 
 /// Words that would lead out of the text: to proofs, to code, or to tools.
-const OUTSIDE: [&str; 7] = [
-    "proofs/", "specs/", "src/", ".antt", ".rt", "Rattle", "promise",
+const OUTSIDE: [&str; 8] = [
+    "proofs/",
+    "specs/",
+    "src/",
+    ".antt",
+    ".rt",
+    "Rattle",
+    "promise",
+    "ocument 01",
 ];
 
 /// Each sign beyond ASCII is one that the notation names, or one of the letters that the glyphs' own

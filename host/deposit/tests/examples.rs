@@ -1,15 +1,13 @@
 //! The examples of the deposit are what the proved library gives.
 //!
-//! An example is indented. Its first lines say what is asked; each is a word and what belongs to it. The
-//! rest is the answer, which is made anew here.
+//! An example is indented, and begins with a limit or with settings. Its lines say what is asked; what
+//! comes of it stands behind a comma, or in the lines below, and is made anew here.
 
-use captions::raw::{self, Buffers};
-use std::fmt::Write;
+use captions::raw::{self, Buffers, Settings};
+use captions::{WORKSPACE_BYTES, Workspace};
 use std::path::Path;
 
-const ROOM: usize = 65_536;
-
-/// The lines of one example, without their indentation.
+/// The lines of each example, without their indentation.
 fn examples(text: &str) -> Vec<Vec<&str>> {
     let mut examples = vec![Vec::new()];
     for line in text.lines() {
@@ -18,95 +16,179 @@ fn examples(text: &str) -> Vec<Vec<&str>> {
             _ => examples.push(Vec::new()),
         }
     }
-    examples.retain(|example| !example.is_empty());
+    let asked = |example: &Vec<&str>| {
+        let first = example.first().copied().unwrap_or_default();
+        first.starts_with("limit ") || first.starts_with("settings ")
+    };
+    examples.retain(asked);
     examples
 }
 
-/// What stands behind a word at the beginning of a line, where one begins so.
-fn behind<'a>(example: &[&'a str], word: &str) -> Option<&'a str> {
-    let line = example
-        .iter()
-        .find(|line| line.split(' ').next() == Some(word))?;
-    Some(line[word.len()..].trim_start())
+/// What stands behind a word in the lines that begin with it.
+fn behind<'a>(example: &[&'a str], word: &str) -> Vec<&'a str> {
+    let lines = example.iter().filter_map(|line| line.strip_prefix(word));
+    lines.map(str::trim).collect()
 }
 
-fn hex(words: &str) -> Vec<u8> {
-    let bytes = words
-        .split_whitespace()
-        .map(|byte| u8::from_str_radix(byte, 16));
-    bytes
-        .collect::<Result<_, _>>()
-        .expect("a tape is bytes in hexadecimal")
+fn number(word: &str) -> u32 {
+    word.parse().expect("a number is decimal")
 }
 
-fn refused(answer: u64) -> String {
-    format!("refused {} at {}\n", answer >> 32, answer as u32)
+/// Bytes in hexadecimal, so many times where that is said, and then others.
+fn tape(words: &str) -> Vec<u8> {
+    let one = |words: &str| {
+        let (bytes, times) = words.split_once(", ").unwrap_or((words, "1 times"));
+        let bytes = bytes.split_whitespace();
+        let bytes: Result<Vec<u8>, _> = bytes.map(|byte| u8::from_str_radix(byte, 16)).collect();
+        let times = number(times.trim_end_matches(" times"));
+        bytes.expect("bytes are hexadecimal").repeat(times as usize)
+    };
+    words.split(" then ").flat_map(one).collect()
 }
 
-/// The letters' numbers on each line.
+fn settings(words: &str) -> Settings {
+    let numbers = words
+        .split(' ')
+        .enumerate()
+        .map(|(place, word)| match place {
+            2 | 3 => u32::from_str_radix(word, 16).expect("a color is hexadecimal"),
+            _ => number(word),
+        });
+    let numbers: Vec<u32> = numbers.collect();
+    numbers.try_into().expect("there are eight settings")
+}
+
+/// A call's answer: a number behind this word, or the refusal.
+fn answer(word: &str, answer: u64) -> String {
+    match answer >> 32 {
+        0 => format!("{word} {answer}"),
+        number => format!("refused {number} at {}", answer as u32),
+    }
+}
+
 fn lines(tape: &[u8], limit: u32) -> String {
-    let mut workspace = captions::Workspace::new();
-    match captions::wrap(tape, &mut workspace, limit) {
+    match captions::wrap(tape, &mut Workspace::new(), limit) {
         Err(refusal) => format!("refused {} at {}\n", refusal.number, refusal.place),
-        Ok(lines) => lines
-            .iter()
-            .fold(format!("lines {}\n", lines.len()), |text, line| {
-                let numbers: Vec<String> = line.letters.iter().map(u16::to_string).collect();
-                text + format!("{} columns: {}", line.columns, numbers.join(" ")).trim_end() + "\n"
-            }),
-    }
-}
-
-/// How many strokes there are, and the picture as signs, where the example says what they stand for.
-fn picture(tape: &[u8], settings: [u32; 8], signs: Option<&str>) -> String {
-    let [width, height, ..] = settings.map(|number| number as usize);
-    let mut picture = vec![0xaa; width * height * 4];
-    let buffers = Buffers {
-        tape,
-        workspace: &mut vec![0; ROOM],
-        picture: &mut picture,
-    };
-    let answer = raw::draw(settings, buffers);
-    if answer >> 32 != 0 {
-        return refused(answer);
-    }
-    let mut text = format!("strokes {answer}\n");
-    let Some(signs) = signs else { return text };
-    let words: Vec<&str> = signs.split(' ').collect();
-    for row in picture.chunks(4 * width) {
-        for pixel in row.chunks(4) {
-            let pixel = pixel
-                .iter()
-                .fold(String::new(), |text, byte| text + &format!("{byte:02X}"));
-            let known = words.chunks(2).find(|pair| pair[1] == pixel);
-            write!(text, "{}", known.map_or(pixel.as_str(), |pair| pair[0]))
-                .expect("a string takes all");
+        Ok(lines) => {
+            let listed = lines.iter().map(|line| {
+                let numbers = line.letters.iter().map(|number| format!(" {number}"));
+                format!(
+                    "columns {}, letters{}\n",
+                    line.columns,
+                    numbers.collect::<String>()
+                )
+            });
+            format!("lines {}\n{}", lines.len(), listed.collect::<String>())
         }
-        text += "\n";
     }
-    text
 }
 
-/// The example with its answer made anew.
-fn answered(example: &[&str]) -> String {
-    let asked = ["limit", "settings", "tape", "signs"];
-    let is_asked = |line: &&&str| asked.contains(&line.split(' ').next().unwrap_or(""));
-    let question = example
-        .iter()
-        .filter(is_asked)
-        .fold(String::new(), |text, line| text + line + "\n");
-    let tape = hex(behind(example, "tape").expect("an example has a tape"));
-    if let Some(limit) = behind(example, "limit") {
-        return question + &lines(&tape, limit.parse().expect("a limit is a number"));
+/// A picture that is drawn whole, or in stripes; its buffer held other bytes before.
+struct Drawing {
+    settings: Settings,
+    tape: Vec<u8>,
+    picture: Vec<u8>,
+    record: raw::Record,
+}
+
+impl Drawing {
+    fn new(settings: Settings, tape: Vec<u8>) -> Drawing {
+        let [width, height, ..] = settings.map(|number| number as usize);
+        Drawing {
+            settings,
+            tape,
+            picture: vec![0xaa; width * height * 4],
+            record: [7; 65],
+        }
     }
-    let numbers = behind(example, "settings").expect("an example has a limit or settings");
-    let number = |(place, word): (usize, &str)| {
-        let radix = if place == 2 || place == 3 { 16 } else { 10 };
-        u32::from_str_radix(word, radix).expect("a setting is a number")
+
+    fn call(&mut self, call: impl FnOnce(Settings, Buffers, &mut raw::Record) -> u64) -> u64 {
+        let buffers = Buffers {
+            tape: &self.tape,
+            workspace: &mut vec![0; WORKSPACE_BYTES],
+            picture: &mut self.picture,
+        };
+        call(self.settings, buffers, &mut self.record)
+    }
+
+    /// The counters of the stripes that there are.
+    fn counters(&self) -> String {
+        let stripes = self.settings[1].div_ceil(self.record[0].max(1)) as usize;
+        let counters = self.record[1..].iter().take(stripes);
+        counters.map(|counter| format!(" {counter}")).collect()
+    }
+
+    /// A sign for each pixel; the pixel itself where it has none.
+    fn shown(&self, signs: &[&str]) -> String {
+        let words: Vec<&str> = signs.iter().flat_map(|line| line.split(' ')).collect();
+        let sign = |pixel: &[u8]| {
+            let bytes = pixel.iter().map(|byte| format!("{byte:02X}"));
+            let pixel: String = bytes.collect();
+            let known = words.chunks(2).find(|pair| pair[1] == pixel);
+            known.map_or(pixel.clone(), |pair| pair[0].to_owned())
+        };
+        let rows = self.picture.chunks(4 * self.settings[0] as usize);
+        rows.map(|row| row.chunks(4).map(sign).collect::<String>() + "\n")
+            .collect()
+    }
+}
+
+/// What is asked in a line, without what comes of it.
+fn question(line: &str) -> &str {
+    line.split(',').next().unwrap_or_default()
+}
+
+/// Open and the Works after it, each with what comes of it; and the counters.
+fn stripes(drawing: &mut Drawing, height: &str, works: &[&str]) -> String {
+    let rows = number(height);
+    let opened =
+        drawing.call(|settings, buffers, record| raw::open(settings, buffers, rows, record));
+    let mut text = format!("stripes {height}, {}\n", answer("strokes", opened));
+    if opened >> 32 != 0 {
+        return text;
+    }
+    for work in works.iter().map(|work| question(work)) {
+        let (stripe, budget) = work
+            .split_once(' ')
+            .expect("a Work has a stripe and a budget");
+        let [stripe, budget] = [stripe, budget].map(number);
+        let worked = drawing
+            .call(|settings, buffers, record| raw::work(settings, buffers, record, stripe, budget));
+        text += &format!("work {work}, {}\n", answer("done", worked));
+    }
+    text + &format!("counters{}\n", drawing.counters())
+}
+
+/// The example with what comes of it made anew.
+fn answered(example: &[&str]) -> String {
+    let asked = |words: &[&str]| {
+        let lines = example
+            .iter()
+            .filter(|line| words.contains(&line.split(' ').next().unwrap_or("")));
+        lines.fold(String::new(), |text, line| text + line + "\n")
     };
-    let settings: Vec<u32> = numbers.split(' ').enumerate().map(number).collect();
-    let settings = settings.try_into().expect("there are eight settings");
-    question + &picture(&tape, settings, behind(example, "signs"))
+    let tape = tape(behind(example, "tape")[0]);
+    if let [limit] = behind(example, "limit")[..] {
+        return asked(&["limit", "tape"]) + &lines(&tape, number(limit));
+    }
+    let mut drawing = Drawing::new(settings(behind(example, "settings")[0]), tape);
+    let signs = behind(example, "signs");
+    let began = asked(&["settings", "tape", "signs"]);
+    let told = match behind(example, "stripes")[..] {
+        [height] => stripes(&mut drawing, question(height), &behind(example, "work")),
+        _ => {
+            answer(
+                "strokes",
+                drawing.call(|settings, buffers, _| raw::draw(settings, buffers)),
+            ) + "\n"
+        }
+    };
+    let picture = if signs.is_empty() {
+        String::new()
+    } else {
+        drawing.shown(&signs)
+    };
+    began + &told + &picture
 }
 
 #[test]
@@ -115,7 +197,7 @@ fn examples_are_what_the_library_gives() {
     let text = std::fs::read_to_string(file).expect("the examples are there");
     let examples = examples(&text);
     assert!(
-        examples.len() >= 30,
+        examples.len() >= 60,
         "only {} examples were found",
         examples.len()
     );

@@ -160,8 +160,8 @@ fn a_comment_that_leads_out_of_the_text() {
     let said = said(
         "outside",
         file,
-        "-- the same, where",
-        "-- as proofs/Pixel has it, where",
+        "-- the same, and",
+        "-- as proofs/Pixel has it, and",
     );
     assert!(said.contains("`proofs/`"), "{said}");
 }
@@ -169,6 +169,6 @@ fn a_comment_that_leads_out_of_the_text() {
 #[test]
 fn a_sign_that_the_notation_does_not_name() {
     let file = "crates/font/specs/Blend.antt";
-    let said = said("sign", file, "-- the same, where", "-- ∀ the same, where");
+    let said = said("sign", file, "-- the same, and", "-- ∀ the same, and");
     assert!(said.contains("the sign ∀ (U+2200)"), "{said}");
 }
