@@ -31,8 +31,8 @@ sideMargin = 8
 abbrev pub lineWidth : ℕ → ℕ
 lineWidth columns = columns * cellW
 
--- Where a line of w pixels starts: left and start alike, and right and end alike. In the centre that is half of what is left, towards zero: of the two quotients one is 0, the first where
--- the line is the wider, the second where the picture is.
+-- Where a line of w pixels starts: left and start alike, and right and end alike. In the centre that is half of what is left, towards zero:
+-- of the two quotients one is 0, the first where the line is the wider, the second where the picture is.
 unfoldable pub lineStart : Settings → ℕ → ℕ
 lineStart s w =
     cond (eqb (s .align) 0) (origin + (s .width - w) / 2 - (w - s .width) / 2)

@@ -5,10 +5,11 @@ use Prim.Native.Nat.{ℕ, zero, suc, _+_, _-_, _*_, min, max}
 use lib.Dec.{eqb}
 use Rattle.compositor.specs.declared.Settings.{Settings}
 
--- o, how many pixels of outline are drawn
+-- the most pixels of outline that are drawn
 abbrev pub mostOutline : ℕ
 mostOutline = 2
 
+-- o, how many are drawn
 abbrev pub outlineOf : Settings → ℕ
 outlineOf s = min (s .«outline_px») mostOutline
 

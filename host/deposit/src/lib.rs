@@ -4,9 +4,11 @@
 //! before them the notation, and behind them the glyphs as numbers and examples. It is refused where
 //! a reader would meet a name or a sign that nothing in it explains.
 
+mod check;
 mod declared;
 mod part;
 mod signs;
+mod uses;
 
 use part::{Declared, Part, Source};
 use std::fs;
@@ -60,8 +62,8 @@ const CHAPTERS: [(&str, &str, &[&str]); 9] = [
 pub fn gather(root: &Path) -> Result<String, String> {
     let notation = read(root, NOTATION)?;
     let parts = parts(root)?;
-    part::check_all_there(root, &parts)?;
-    part::check_names(&parts, &notation)?;
+    check::all_there(root, &parts)?;
+    check::names(&parts, &notation)?;
     let text = [
         plain_headings(&read(root, PREFACE)?),
         contents(&parts),

@@ -1,9 +1,8 @@
 //! One file of definitions.
 
 use crate::signs;
+use crate::uses::{self, Use};
 use std::collections::BTreeMap;
-use std::fs;
-use std::path::Path;
 
 /// The widest line that is made here.
 const COLUMNS: usize = 120;
@@ -22,16 +21,6 @@ impl Source {
     pub fn path(&self) -> String {
         format!("crates/{}/specs/{}.antt", self.of, self.file)
     }
-}
-
-/// Names that a part takes from elsewhere.
-enum Use {
-    Library(Vec<String>),
-    /// A part, and those of its names; none are listed where each is written with the part's name
-    /// before it.
-    Part(String, Vec<String>),
-    /// A type that the code of a crate declares, by its path there.
-    Declared(String, Vec<String>),
 }
 
 /// A type that the code of a crate declares, and the part that shows it.
@@ -57,7 +46,7 @@ pub struct Part {
     pub source: Source,
     /// What it is about.
     head: String,
-    uses: Vec<Use>,
+    pub uses: Vec<Use>,
     body: String,
 }
 
@@ -66,7 +55,7 @@ impl Part {
         let comment = text.lines().take_while(|line| line.starts_with("--"));
         let head = joined(comment.map(without_paper)).replace(" Definitions only.", "");
         let used = text.lines().filter_map(|line| line.strip_prefix("use "));
-        let uses = used.map(parse_use).collect::<Result<_, _>>()?;
+        let uses = used.map(uses::parse).collect::<Result<_, _>>()?;
         let rest = text
             .lines()
             .skip_while(|line| line.starts_with("--") || line.starts_with("use "));
@@ -132,7 +121,7 @@ impl Part {
     }
 
     /// Whether a line of it introduces a name.
-    fn introduces(&self, name: &str) -> bool {
+    pub fn introduces(&self, name: &str) -> bool {
         self.body.lines().any(|line| {
             let before = line.split(" : ").next().unwrap_or_default();
             let mut words = before
@@ -141,37 +130,6 @@ impl Part {
             line.contains(" : ") && words.any(|word| word == name)
         })
     }
-}
-
-/// `PATH.{a, b}` or `PATH as NAME`.
-fn parse_use(line: &str) -> Result<Use, String> {
-    let (path, names) = match line.split_once(".{") {
-        Some((path, names)) => (
-            path,
-            names
-                .trim_end_matches('}')
-                .split(", ")
-                .map(str::to_owned)
-                .collect(),
-        ),
-        None => {
-            let (path, _) = line
-                .split_once(" as ")
-                .ok_or(format!("`use {line}` is not understood"))?;
-            (path, Vec::new())
-        }
-    };
-    let Some((of, from)) = path
-        .strip_prefix("Rattle·")
-        .and_then(|path| path.split_once(".specs."))
-    else {
-        return Ok(Use::Library(names));
-    };
-    let of = of.split('·').next().unwrap_or(of);
-    Ok(match from.strip_prefix("declared.") {
-        Some(path) => Use::Declared(of.to_owned(), path.split('.').map(str::to_owned).collect()),
-        None => Use::Part(from.to_owned(), names),
-    })
 }
 
 /// A line of a head without the paragraph of the paper that it names: readers have no such paper.
@@ -226,63 +184,4 @@ fn folded(words: &str) -> String {
         }
     }
     joined(lines.iter())
-}
-
-/// That each file of definitions is among the parts; those of promises say so in their first line.
-pub fn check_all_there(root: &Path, parts: &[Part]) -> Result<(), String> {
-    let mut crates: Vec<_> = parts.iter().map(|part| part.source.of).collect();
-    crates.sort_unstable();
-    crates.dedup();
-    for of in crates {
-        let folder = root.join(format!("crates/{of}/specs"));
-        let fault = |fault| format!("crates/{of}/specs: {fault}");
-        for entry in fs::read_dir(folder).map_err(fault)? {
-            let path = entry.map_err(fault)?.path();
-            let name = path
-                .file_stem()
-                .unwrap_or_default()
-                .to_string_lossy()
-                .into_owned();
-            let listed = parts
-                .iter()
-                .any(|part| part.source.of == of && part.source.file == name);
-            let text = fs::read_to_string(&path).map_err(fault)?;
-            if !listed && name != "Lib" && !text.starts_with("-- Promises") {
-                return Err(format!("{of}'s definitions {name} are in no chapter"));
-            }
-        }
-    }
-    Ok(())
-}
-
-/// That each name is explained before it is used: in the notation, or by an earlier part.
-pub fn check_names(parts: &[Part], notation: &str) -> Result<(), String> {
-    for (place, part) in parts.iter().enumerate() {
-        for used in &part.uses {
-            let missing = match used {
-                Use::Library(names) => names.iter().find(|name| {
-                    let sign = name.trim_matches('_');
-                    !signs::has_word(notation, sign)
-                }),
-                Use::Part(from, names) => {
-                    let Some(earlier) = parts[..place].iter().find(|part| part.source.file == from)
-                    else {
-                        return Err(format!(
-                            "{} takes names from {from}, which does not stand before it",
-                            part.source.file
-                        ));
-                    };
-                    names.iter().find(|name| !earlier.introduces(name))
-                }
-                Use::Declared(..) => None,
-            };
-            if let Some(name) = missing {
-                return Err(format!(
-                    "{} takes the name {name}, which nothing explains",
-                    part.source.file
-                ));
-            }
-        }
-    }
-    Ok(())
 }
