@@ -1,6 +1,5 @@
 -- WHAT ANY LIST OF CALLS LEAVES: one claim about an accepted Open and every list of Work calls after it, refused ones among them. `Demand3`, at
--- the end, is the claim, the third that was demanded of the program, and it is proved. Calls are told by the records that are the contracts of
--- Open and Work. Definitions only.
+-- the end, is the claim, and it is proved. Calls are told by the records that are the contracts of Open and Work. Definitions only.
 use mathlib.Core.Path.{_≡_}
 use mathlib.Core.Bool.{false, cond}
 use mathlib.Core.List.{List, [], _∷_}

@@ -1,5 +1,5 @@
 -- WHERE LINES STAND: document 01, "Places and strokes", first paragraph. Definitions only.
--- A place is counted from an origin far left of and above the picture (`origin`, in the font's definitions), so that it is never negative.
+-- A place is counted from an origin far left of and above the picture (`origin`, of the part Stroke), so that it is never negative.
 use mathlib.Core.Bool.{cond}
 use Prim.Native.Nat.{ℕ, _+_, _-_, _*_, _/_, min, max}
 use lib.Dec.{eqb, leb}
@@ -15,7 +15,8 @@ columnLimit s = max 1 (s .width / cellW)
 abbrev pub lineHeight : Settings → ℕ
 lineHeight s = max (s .«line_height_px») cellH
 
--- the picture's row on which the last line's base line stands, 4 rows above the bottom margin; each subtraction stops at 0
+-- the picture's row on which the last line's base line stands, 4 rows above the bottom margin, for so many rows of a cell are below it; each
+-- subtraction stops at 0
 abbrev pub lastBaseLine : Settings → ℕ
 lastBaseLine s = s .height - s .«bottom_margin_px» - min (cellH - bearingY) cellH
 

@@ -24,10 +24,10 @@ rowAfter s ts c y = strokesOn (take c ts) y (replicate (rowBytes s) 0)
 abbrev pub pictureAfter : Settings → List Stroke → ℕ → List ℕ → List ℕ
 pictureAfter s ts c bytes = eachRow (λ y row. rowAfter s ts c y) (rowBytes s) (s .height) 0 bytes
 
--- the picture's buffer with its picture zeroed
+-- the picture's buffer with its picture zeroed: for stripes
 abbrev pub cleared : Settings → List ℕ → List ℕ
 cleared s bytes = replicate (pictureBytes s) 0 ++ drop (pictureBytes s) bytes
 
--- row y of a picture's buffer
+-- row y of a picture's buffer: for claims
 abbrev pub rowOf : Settings → List ℕ → ℕ → List ℕ
 rowOf s bytes y = take (rowBytes s) (drop (y * rowBytes s) bytes)

@@ -5,7 +5,7 @@ use Prim.Native.Nat.{ℕ, _+_, _-_, _*_, _/_, _%_, _^_, min}
 use lib.Dec.{eqb}
 use lib.ListN.{getD, set}
 
--- the four bytes of a color that is written as the number 0xRRGGBBAA, below 2^32
+-- the four bytes of a color that is written as the number 0xRRGGBBAA, below 2^32: for calls that take one, not for players
 abbrev pub colorBytes : ℕ → List ℕ
 colorBytes k = k / 2 ^ 24 ∷ k / 2 ^ 16 % 256 ∷ k / 2 ^ 8 % 256 ∷ k % 256 ∷ []
 
@@ -13,7 +13,7 @@ colorBytes k = k / 2 ^ 24 ∷ k / 2 ^ 16 % 256 ∷ k / 2 ^ 8 % 256 ∷ k % 256 �
 unfoldable pub blendByte : ℕ → ℕ → ℕ → ℕ
 blendByte s a d = (s * a + d * (255 - a) + 127) / 255
 
--- alpha a over the picture's alpha d
+-- alpha a over the picture's alpha d; the sum is never over 255
 unfoldable pub blendAlpha : ℕ → ℕ → ℕ
 blendAlpha a d = min 255 (a + (d * (255 - a) + 127) / 255)
 

@@ -9,7 +9,8 @@ use Rattle.font.specs.Font.{bearingY, cellW, cellH}
 use Rattle.font.specs.Blend.{blendPixel}
 
 -- A place, of a column or of a row, is counted from an origin so far left of and above the picture that it is never negative: the picture's
--- column 0 and row 0 are at 2^26.
+-- column 0 and row 0 are at 2^26. No difference that is taken from a place stops at 0, but where a test beside it fails anyway; so places may be
+-- counted from the picture's corner in signed numbers as well.
 abbrev pub origin : ℕ
 origin = 0x400_0000
 

@@ -4,9 +4,9 @@
 --   01  an empty text: it has no letter, and is a run all the same, which may part two others
 --   02  a letter, its code point (Unicode's) in 1 byte; 03 in 2 bytes; 04 in 3 bytes. Any of them that holds it will do
 --   05  a line break, which counts as a letter and stands on no line
---   06  bold, 07 italic, 08 color (red, green, blue): each opens a list, up to its 00; and so does 0A, a plain group
+--   06  bold, 07 italic, 08 color (red, green, blue): each opens a list, up to its 00; and so does 0A, a plain group. An empty list is no run
 --   09  a voice: letters up to a 00 are its name, which is shown with ": " behind it, and a list follows, up to its own 00
---   0B  a time mark, which shows nothing
+--   0B  a time mark, which shows nothing and is no run
 use mathlib.Core.Bool.{Bool, cond, not, _&&_, _||_}
 use mathlib.Core.List.{List, [], _∷_}
 use Prim.Native.Nat.{ℕ, _+_, _*_}

@@ -35,7 +35,8 @@ abbrev pub lettersIn : Style → Bool → List ℕ → List Letter
 lettersIn s start [] = []
 lettersIn s start (v ∷ vs) = record { code = v; style = s; start = start } ∷ lettersIn s false vs
 
--- the letters of runs, the first of each with a mark
+-- The letters of runs, the first of each with a mark. So a letter starts a run where none is before it, or where its own style, or that of an
+-- empty text between the two, is not that of the letter before it.
 unfoldable pub lettersOf : List Run → List Letter
 lettersOf [] = []
 lettersOf (r ∷ rs) = lettersIn (r .style) true (r .text) ++ lettersOf rs

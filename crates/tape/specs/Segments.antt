@@ -1,4 +1,4 @@
--- The other reading of a tape: the segments that it writes, and the runs that walking them gives, as in the original.
+-- The other reading of a tape: the segments that it writes, and the runs that walking them gives.
 -- That the two readings agree is proved. Definitions only.
 use mathlib.Core.Path.{_≡_}
 use mathlib.Core.Bool.{Bool, true, cond, _&&_}

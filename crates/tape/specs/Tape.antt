@@ -90,6 +90,6 @@ leastRoom = 65536
 abbrev pub refuseLengths : {A : Type 0} → List ℕ → ℕ → Outcome A → Outcome A
 refuseLengths tape room o = refuseIf (ltb mostBytes (length tape)) 10 0 (refuseIf (ltb room leastRoom) 11 0 o)
 
--- what reading a tape into a workspace comes to
+-- what reading a tape into a workspace comes to, as Wrap does; Draw looks at the lengths before
 unfoldable pub tapeRead : Style → ℕ → List ℕ → Outcome (List Letter)
 tapeRead s room tape = refuseLengths tape room (tapeLetters s tape)

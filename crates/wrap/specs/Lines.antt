@@ -89,7 +89,8 @@ module _ (ls : List Letter) where
   isSpaceToken [] = true
   isSpaceToken (k ∷ ks) = blank k && isSpaceToken ks
 
--- a token cut into chunks of L letters, controls counted; the last may be shorter. `room` is how many letters more the first may have.
+-- A token cut into chunks of L letters, controls counted; the last may be shorter, and none is empty: 8 letters at L = 4 are two chunks. `room` is
+-- how many letters more the first may have.
 unfoldable pub chunks : ℕ → ℕ → Line → List Line
 chunks L room [] = [] ∷ []
 chunks L (suc room) (k ∷ ks) = ontoFirst k (chunks L room ks)
@@ -176,7 +177,8 @@ isEmptyLine (k ∷ ks) = false
 unfoldable pub wrapRuns : List Letter → ℕ → List Line
 wrapRuns ls L = withoutLast isEmptyLine (map (trimTrailingSpace ls) (filled ls L .closed))
 
--- those of a line that are neither space, tab, break nor control: it is proved that all of these stand on the lines, once each and in order
+-- those of a line that are neither space, tab, break nor control: not for players; it is proved that all of these stand on the lines, once
+-- each and in order
 unfoldable pub shown : List Letter → Line → Line
 shown ls [] = []
 shown ls (k ∷ ks) = cond (isShown (codeOf ls k)) (k ∷ shown ls ks) (shown ls ks)

@@ -87,17 +87,26 @@ fn lines(tape: &[u8], limit: u32) -> String {
 struct Drawing {
     settings: Settings,
     tape: Vec<u8>,
+    room: usize,
     picture: Vec<u8>,
     record: raw::Record,
 }
 
 impl Drawing {
-    fn new(settings: Settings, tape: Vec<u8>) -> Drawing {
+    /// Workspace and buffer are as long as the example says, or else as they have to be.
+    fn new(example: &[&str]) -> Drawing {
+        let settings = settings(behind(example, "settings")[0]);
         let [width, height, ..] = settings.map(|number| number as usize);
+        let told = |word: &str| {
+            behind(example, word)
+                .first()
+                .map(|line| number(line) as usize)
+        };
         Drawing {
             settings,
-            tape,
-            picture: vec![0xaa; width * height * 4],
+            tape: tape(&behind(example, "tape").join(" ")),
+            room: told("room").unwrap_or(WORKSPACE_BYTES),
+            picture: vec![0xaa; told("buffer").unwrap_or(width * height * 4)],
             record: [7; 65],
         }
     }
@@ -105,17 +114,57 @@ impl Drawing {
     fn call(&mut self, call: impl FnOnce(Settings, Buffers, &mut raw::Record) -> u64) -> u64 {
         let buffers = Buffers {
             tape: &self.tape,
-            workspace: &mut vec![0; WORKSPACE_BYTES],
+            workspace: &mut vec![0; self.room],
             picture: &mut self.picture,
         };
         call(self.settings, buffers, &mut self.record)
+    }
+
+    fn draw(&mut self) -> String {
+        let drawn = self.call(|settings, buffers, _| raw::draw(settings, buffers));
+        answer("strokes", drawn) + "\n"
+    }
+
+    fn open(&mut self, height: &str) -> String {
+        let rows = number(height);
+        let opened =
+            self.call(|settings, buffers, record| raw::open(settings, buffers, rows, record));
+        format!("stripes {height}, {}\n", answer("strokes", opened))
+    }
+
+    /// Begins with a record that no Open gave, and a cleared picture.
+    fn set_record(&mut self, words: &str) -> String {
+        self.record = [0; 65];
+        self.picture.fill(0);
+        let numbers = words.split(' ').map(number);
+        let places = self.record.iter_mut().zip(numbers);
+        places.for_each(|(place, number)| *place = number);
+        format!("record {words}\n")
+    }
+
+    fn work(&mut self, words: &str) -> String {
+        let (stripe, budget) = words
+            .split_once(' ')
+            .expect("a Work has a stripe and a budget");
+        let [stripe, budget] = [stripe, budget].map(number);
+        let worked = self
+            .call(|settings, buffers, record| raw::work(settings, buffers, record, stripe, budget));
+        format!("work {words}, {}\n", answer("done", worked))
     }
 
     /// The counters of the stripes that there are.
     fn counters(&self) -> String {
         let stripes = self.settings[1].div_ceil(self.record[0].max(1)) as usize;
         let counters = self.record[1..].iter().take(stripes);
-        counters.map(|counter| format!(" {counter}")).collect()
+        let listed: String = counters.map(|counter| format!(" {counter}")).collect();
+        format!("counters{listed}\n")
+    }
+
+    /// The sum of each byte times its place, counted from 1.
+    fn check(&self) -> String {
+        let bytes = (1..).zip(&self.picture);
+        let sum: u64 = bytes.map(|(place, byte)| place * u64::from(*byte)).sum();
+        format!("check, {sum}\n")
     }
 
     /// A sign for each pixel; the pixel itself where it has none.
@@ -128,8 +177,8 @@ impl Drawing {
             known.map_or(pixel.clone(), |pair| pair[0].to_owned())
         };
         let rows = self.picture.chunks(4 * self.settings[0] as usize);
-        rows.map(|row| row.chunks(4).map(sign).collect::<String>() + "\n")
-            .collect()
+        let shown = rows.map(|row| row.chunks(4).map(sign).collect::<String>() + "\n");
+        shown.collect()
     }
 }
 
@@ -138,57 +187,44 @@ fn question(line: &str) -> &str {
     line.split(',').next().unwrap_or_default()
 }
 
-/// Open and the Works after it, each with what comes of it; and the counters.
-fn stripes(drawing: &mut Drawing, height: &str, works: &[&str]) -> String {
-    let rows = number(height);
-    let opened =
-        drawing.call(|settings, buffers, record| raw::open(settings, buffers, rows, record));
-    let mut text = format!("stripes {height}, {}\n", answer("strokes", opened));
-    if opened >> 32 != 0 {
-        return text;
+/// What comes of a picture that is asked for, whole or in stripes.
+fn drawn(example: &[&str]) -> String {
+    let mut drawing = Drawing::new(example);
+    let works = behind(example, "work");
+    let begun = match (
+        &behind(example, "stripes")[..],
+        &behind(example, "record")[..],
+    ) {
+        ([height], _) => drawing.open(question(height)),
+        (_, [record]) => drawing.set_record(record),
+        _ => drawing.draw(),
+    };
+    let mut text = begun;
+    for work in &works {
+        text += &drawing.work(question(work));
     }
-    for work in works.iter().map(|work| question(work)) {
-        let (stripe, budget) = work
-            .split_once(' ')
-            .expect("a Work has a stripe and a budget");
-        let [stripe, budget] = [stripe, budget].map(number);
-        let worked = drawing
-            .call(|settings, buffers, record| raw::work(settings, buffers, record, stripe, budget));
-        text += &format!("work {work}, {}\n", answer("done", worked));
+    if !works.is_empty() {
+        text += &drawing.counters();
     }
-    text + &format!("counters{}\n", drawing.counters())
+    if example.iter().any(|line| question(line) == "check") {
+        text += &drawing.check();
+    }
+    match &behind(example, "signs")[..] {
+        [] => text,
+        signs => text + &drawing.shown(signs),
+    }
 }
 
 /// The example with what comes of it made anew.
 fn answered(example: &[&str]) -> String {
-    let asked = |words: &[&str]| {
-        let lines = example
-            .iter()
-            .filter(|line| words.contains(&line.split(' ').next().unwrap_or("")));
-        lines.fold(String::new(), |text, line| text + line + "\n")
-    };
-    let tape = tape(behind(example, "tape")[0]);
-    if let [limit] = behind(example, "limit")[..] {
-        return asked(&["limit", "tape"]) + &lines(&tape, number(limit));
+    let asked = ["limit", "settings", "tape", "signs", "room", "buffer"];
+    let is_asked = |line: &&&str| asked.contains(&line.split(' ').next().unwrap_or(""));
+    let lines_asked = example.iter().filter(is_asked);
+    let text = lines_asked.fold(String::new(), |text, line| text + line + "\n");
+    text + &match behind(example, "limit")[..] {
+        [limit] => lines(&tape(&behind(example, "tape").join(" ")), number(limit)),
+        _ => drawn(example),
     }
-    let mut drawing = Drawing::new(settings(behind(example, "settings")[0]), tape);
-    let signs = behind(example, "signs");
-    let began = asked(&["settings", "tape", "signs"]);
-    let told = match behind(example, "stripes")[..] {
-        [height] => stripes(&mut drawing, question(height), &behind(example, "work")),
-        _ => {
-            answer(
-                "strokes",
-                drawing.call(|settings, buffers, _| raw::draw(settings, buffers)),
-            ) + "\n"
-        }
-    };
-    let picture = if signs.is_empty() {
-        String::new()
-    } else {
-        drawing.shown(&signs)
-    };
-    began + &told + &picture
 }
 
 #[test]
@@ -197,7 +233,7 @@ fn examples_are_what_the_library_gives() {
     let text = std::fs::read_to_string(file).expect("the examples are there");
     let examples = examples(&text);
     assert!(
-        examples.len() >= 60,
+        examples.len() >= 90,
         "only {} examples were found",
         examples.len()
     );
