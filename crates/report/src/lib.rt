@@ -1,14 +1,14 @@
 // What the programs share that write answers: numbers of two bytes, digests, and the lines written.
 // Each function that writes is false where the output takes no more.
-ghost use mathlib.Core.Path.{_≡_};
 ghost use Prim.Native.Nat.{_+_, _≤_, _<_};
 ghost use lib.ListN.{length};
 use libc::STDOUT_FILENO;
 
-fn wide(x: u8) -> usize
-    ensures { λ r. ⌜ (r ≡ x) × (r < 256) ⌝ }
+// The number in two bytes.
+fn two(high: u8, low: u8) -> usize
+    ensures { λ r. ⌜ r < 65536 ⌝ }
 {
-    x as usize
+    high as usize * 256 + low as usize
 }
 
 // The number in two bytes at a place, high byte first.
@@ -16,7 +16,7 @@ pub fn number_at(bytes: &[u8], at: usize) -> usize
     requires { ⌜ at + 2 ≤ length (now bytes) ⌝ }
     ensures { λ r. ⌜ r < 65536 ⌝ }
 {
-    wide(bytes[at]) * 256 + wide(bytes[at + 1])
+    two(bytes[at], bytes[at + 1])
 }
 
 // Where the entry of a sample ends that begins at a place: behind a header, whose last two bytes say

@@ -10,7 +10,7 @@ use lib.Dec.{T, leb, leb→le}
 use lib.Ieee.Fits.{and-l, and-r}
 use lib.ListN.{length, take, drop, getD, length-drop}
 use lib.Seq.{take-suc, getD-drop}
-use Rattle.tape.specs.Command.{width, widths, numberFrom, codePoint}
+use Rattle.tape.specs.Command.{width, widths, numberFrom}
 
 abbrev atMost : ℕ → List ℕ → Bool
 atMost m [] = true
@@ -35,26 +35,23 @@ number-more l from i h =
     let k : i < length (drop from l) = simp length-drop (omega arith) in
     rw (add-one, take-suc (drop from l) i 0 k, number-snoc 0 (take i (drop from l)), getD-drop)
 
--- the code points of 02, 03 and 04 at a place
+-- the numbers of one, two and three operands at a place
 module _ (l : List ℕ) (at : ℕ) where
-  pub spells-1 : at + 1 < length l → codePoint 2 (drop (at + 1) l) ≡ getD l (at + 1) 0
-  unfolding codePoint
+  pub spells-1 : at + 1 < length l → numberFrom 0 (take 1 (drop (at + 1) l)) ≡ getD l (at + 1) 0
   spells-1 h = let e = number-more l (at + 1) 0 (omega arith) in rw add-zero at e ∙ omega arith
 
-  pub spells-2 : at + 2 < length l → codePoint 3 (drop (at + 1) l) ≡ getD l (at + 1) 0 * 256 + getD l (at + 2) 0
-  unfolding codePoint
+  pub spells-2 : at + 2 < length l → numberFrom 0 (take 2 (drop (at + 1) l)) ≡ getD l (at + 1) 0 * 256 + getD l (at + 2) 0
   spells-2 h =
       number-more l (at + 1) 1 (omega arith)
       ∙ rw (add-assoc) (ap (λ (v : ℕ). v * 256 + getD l (at + 2) 0) (spells-1 (omega arith)))
 
   pub spells-3 : at + 3 < length l
-      → codePoint 4 (drop (at + 1) l) ≡ (getD l (at + 1) 0 * 256 + getD l (at + 2) 0) * 256 + getD l (at + 3) 0
-  unfolding codePoint
+      → numberFrom 0 (take 3 (drop (at + 1) l)) ≡ (getD l (at + 1) 0 * 256 + getD l (at + 2) 0) * 256 + getD l (at + 3) 0
   spells-3 h =
       number-more l (at + 1) 2 (omega arith)
       ∙ rw (add-assoc) (ap (λ (v : ℕ). v * 256 + getD l (at + 3) 0) (spells-2 (omega arith)))
 
--- a letter's width
+-- the letters' widths: where the code goes by a letter's command, this law says that the cases are the table's
 pub letter-width : (c : ℕ) → 2 ≤ c → c ≤ 4 → width c ≡ c - 1
 letter-width zero h k = absurd (omega arith)
 letter-width (suc zero) h k = absurd (omega arith)

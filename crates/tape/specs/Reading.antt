@@ -3,6 +3,7 @@ use mathlib.Core.Path.{_≡_}
 use mathlib.Core.Bool.{Bool, false, not, _&&_}
 use mathlib.Core.List.{List}
 use Prim.Native.Nat.{ℕ, _+_, _*_, _≤_, _<_}
+use lib.Dec.{leb, ltb, eqb}
 use lib.ListN.{length, getD, drop}
 use Rattle.tape.specs.declared.Style.{Style}
 use Rattle.tape.specs.declared.State.{State}
@@ -88,11 +89,10 @@ pub record Leaf (tape ws : List ℕ) (st : State) : Type 0 where
   pub few : st .count + added false (byteOf tape st) ≤ mostLetters
   pub space : 8 * mostLetters ≤ length ws
 
--- a whole letter of one byte at a place, after so many letters that it has room
-pub record ShortLetter (tape : List ℕ) (at count : ℕ) : Type 0 where
-  pub letter : byteAt tape at ≡ 2
-  pub whole : at + 1 < length tape
-  pub room : count < mostLetters
+-- whether the command at a place is a letter of one byte, whole, and after so few letters that it has room
+unfoldable pub shortLetter : List ℕ → ℕ → ℕ → Bool
+shortLetter tape at count =
+    eqb (byteAt tape at) 0x02 && (leb (width 0x02) (length (restAt tape at)) && ltb count mostLetters)
 
 -- ---- what is told
 
@@ -136,9 +136,14 @@ abbrev pub ToTheEnd : List ℕ → Bool → ℕ → Step → Type 0
 ToTheEnd tape name depth (Done b) = name ≡ false → depth ≡ 0 → length tape ≤ b .at
 ToTheEnd tape name depth (Refused number place) = Unit
 
--- letters were read, in whatever list or name
-abbrev pub LettersRead : List ℕ → List ℕ → List ℕ → State → Style → State → Type 0
-LettersRead tape ws ws' a s b = (name : Bool) (depth : ℕ) → Went tape ws ws' depth (within s name) (within s name) a b
+-- letters of the style s were read, in whatever list or name
+abbrev pub WentOn : List ℕ → List ℕ → List ℕ → Style → State → State → Type 0
+WentOn tape ws ws' s a b = (name : Bool) (depth : ℕ) → Went tape ws ws' depth (within s name) (within s name) a b
+
+-- and all the short ones that follow
+pub record LettersRead (tape ws ws' : List ℕ) (a : State) (s : Style) (b : State) : Type 0 where
+  pub went : WentOn tape ws ws' s a b
+  pub stops : b .at < length tape → shortLetter tape (b .at) (b .count) ≡ false
 
 -- a leaf, a segment, and a list or a name were read
 abbrev pub LeafRead : List ℕ → List ℕ → List ℕ → State → Style → State → Type 0

@@ -21,7 +21,8 @@ pub const MOST_BYTES: usize = 16384;
 
 pub const LEAST_ROOM: usize = 65536;
 
-fn wide(x: u8) -> u32
+// A byte as a larger number.
+pub fn wide(x: u8) -> u32
     ensures { λ r. ⌜ (r ≡ x) × (r < 256) ⌝ }
 {
     x as u32

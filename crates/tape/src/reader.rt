@@ -34,15 +34,16 @@ fn read_letters(tape: &[u8], ws: &mut [u8], st: State, style: Style) -> State
     requires { ⌜ Ready (now tape) (now ws) st ⌝ }
     ensures { λ r. ⌜ LettersRead (now (tape .entry)) (now (ws .entry)) (now (ws .exit)) st style r ⌝ }
 {
-    let mut s = st;
-    while s.at < tape.len() {
-        let at = s.at;
-        if !command::is_short_letter(tape, at, s.count) {
-            return s;
+    let mut after = st;
+    while after.at < tape.len() {
+        let at = after.at;
+        if !command::is_short_letter(tape, at, after.count) {
+            return after;
         }
-        s = s.put(ws, style, wide(tape[at + 1]), at + 2);
+        let next = at + 1 + command::operand_width(0x02);
+        after = after.put(ws, style, wide(tape[at + 1]), next);
     }
-    s
+    after
 }
 
 // A list or a name up to its 00, or the outer list to the tape's end.

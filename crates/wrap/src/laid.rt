@@ -8,18 +8,12 @@ pub const NUMBERS: usize = 32768;
 
 pub const TABLE: usize = 40960;
 
-fn wide(x: u8) -> usize
-    ensures { λ r. ⌜ (r ≡ x) × (r < 256) ⌝ }
-{
-    x as usize
-}
-
 // A number in two bytes, high byte first.
 fn two_at(ws: &[u8], at: usize) -> usize
     requires { ⌜ at + 2 ≤ length (now ws) ⌝ }
     ensures { λ r. ⌜ (r ≡ twoAt (now (ws .entry)) at) × (r < 65536) ⌝ }
 {
-    wide(ws[at]) * 256 + wide(ws[at + 1])
+    tape::wide(ws[at]) as usize * 256 + tape::wide(ws[at + 1]) as usize
 }
 
 // The number of the k-th letter on lines.

@@ -1,26 +1,25 @@
 use mathlib.Core.Path.{_≡_, _∙_, sym, ap₂}
-use Prim.Native.Nat.{ℕ, _+_, _*_, _≤_}
+use Prim.Native.Nat.{ℕ, _+_, _-_, _*_, _≤_, _<_}
 use native.Mathlib.Omega.{arith}
+use borrow.Author.Needs.{needs}
 use lib.ListN.{length}
+use Rattle.tape.specs.Command.{width, codePoint}
 use Rattle.tape.specs.Reading.{byteAt}
 use Rattle.tape.proofs.Commands.{letter-range}
 use Rattle.tape.proofs.Numbers.{letter-width, spells-1, spells-2, spells-3}
-use borrow.Author.Needs.{needs}
 use Rattle.tape.proofs.command.code_point.Statement.{statement}
 use Rattle.tape.proofs.command.code_point.Tie as tie
 
--- the command is 02, 03 or 04, and whole
+-- the command is 02, 03 or 04, has as many operands as the table says, and is whole
 reach : (c : tie.Start) →
-    let k = byteAt (c .args .tape .now) (c .args .at) in
-    (2 ≤ k) × (k ≤ 4) × (c .args .at + k ≤ length (c .args .tape .now))
-reach c =
-    let r = letter-range _ (c .pre .0) in
-    let w = letter-width _ (r .0) (r .1) in
-    let whole = c .pre .1 in
-    (r .0, r .1, omega arith)
+    let a = c .args in
+    let k = byteAt (a .tape .now) (a .at) in
+    (2 ≤ k) × (k ≤ 4) × (width k ≡ k - 1) × (a .at + width k < length (a .tape .now))
+reach c = let r = letter-range _ (c .pre .0) in (r .0, r .1, letter-width _ (r .0) (r .1), c .pre .1)
 
-last : (k : ℕ) → 2 ≤ k → k ≤ 4 → (k ≡ 2 → ⊥) → (k ≡ 3 → ⊥) → k ≡ 4
-last k h l two three = omega (arith, two, three)
+-- so many
+has : (c : tie.Start) (w : ℕ) → byteAt (c .args .tape .now) (c .args .at) ≡ w + 1 → width (byteAt (c .args .tape .now) (c .args .at)) ≡ w
+has c w e = let r = reach c in omega arith
 
 four : (c : tie.Else2) →
     let s = c .before .before .before .before .before .before .before .before in
@@ -28,7 +27,7 @@ four : (c : tie.Else2) →
 four c =
     let e = c .before .before .before in
     let r = reach (e .before .before .before .before .before) in
-    last _ (r .0) (r .1) (e .if1 .left) (c .if2 .left)
+    omega (arith, e .if1 .left, c .if2 .left)
 
 shared-slice-read-c : tie.Need-shared-slice-read-c
 shared-slice-read-c c = search needs
@@ -43,11 +42,12 @@ wide-requires : tie.Need-wide-requires
 wide-requires c κs = search needs
 
 returns : tie.Need-returns
+unfolding codePoint
 returns c =
     let w = c .before .wide .ensures in
     let s = c .before .before .before .before .before in
     let r = reach s in
-    (rw (c .if1 .taken) (w .0 ∙ sym (spells-1 (s .args .tape .now) (s .args .at) (omega arith))), omega arith)
+    (rw (has s 1 (c .if1 .taken)) (w .0 ∙ sym (spells-1 (s .args .tape .now) (s .args .at) (omega arith))), omega arith)
 
 mul-middle : tie.Need-mul-middle
 mul-middle c = search needs
@@ -65,13 +65,14 @@ add-middle : tie.Need-add-middle
 add-middle c = search needs
 
 returns-2 : tie.Need-returns-2
+unfolding codePoint
 returns-2 c =
     let w = c .before in
     let v = w .before .before .before in
     let s = v .before .before .before .before in
     let r = reach s in
     let is = ap₂ (λ (x y : ℕ). x * 256 + y) (v .wide .ensures .0) (w .wide2 .ensures .0) in
-    (rw (c .if2 .taken) (is ∙ sym (spells-2 (s .args .tape .now) (s .args .at) (omega arith))), omega arith)
+    (rw (has s 2 (c .if2 .taken)) (is ∙ sym (spells-2 (s .args .tape .now) (s .args .at) (omega arith))), omega arith)
 
 mul-result : tie.Need-mul-result
 mul-result c = search needs
@@ -92,6 +93,7 @@ add-result : tie.Need-add-result
 add-result c = search needs
 
 returns-3 : tie.Need-returns-3
+unfolding codePoint
 returns-3 c =
     let o = c .before .before in
     let w = o .before in
@@ -100,7 +102,7 @@ returns-3 c =
     let r = reach s in
     let k = four o in
     let is = ap₂ (λ (x y : ℕ). (x * 256 + y) * 256 + c .wide3 .result) (v .wide .ensures .0) (w .wide2 .ensures .0) in
-    (rw k (is ∙ rw (c .wide3 .ensures .0) (sym (spells-3 (s .args .tape .now) (s .args .at) (omega arith)))), omega arith)
+    (rw (has s 3 k) (is ∙ rw (c .wide3 .ensures .0) (sym (spells-3 (s .args .tape .now) (s .args .at) (omega arith)))), omega arith)
 
 pub code-point-spec : {M : Type 1} → statement M
 code-point-spec =

@@ -1,9 +1,10 @@
 use mathlib.Core.Path.{_≡_, _∙_, sym}
-use Prim.Native.Nat.{ℕ, _+_}
+use Prim.Native.Nat.{ℕ, _+_, _≤_, _<_}
+use native.Mathlib.Omega.{arith}
 use borrow.Author.Needs.{needs}
 use borrow.Author.Tests.{lt-ltb, le-ltb}
 use lib.ListN.{getD, drop, length-drop}
-use Rattle.tape.specs.Command.{faultTests, firstOf, faultOf}
+use Rattle.tape.specs.Command.{mostLetters, faultTests, firstOf, faultOf}
 use Rattle.tape.proofs.command.fault.Statement.{statement}
 use Rattle.tape.proofs.command.fault.Tie as tie
 
@@ -78,16 +79,24 @@ letters-added-requires c κs = search needs
 add-if6 : tie.Need-add-if6
 add-if6 c = search needs
 
+-- how many letters there are with the command's
+abbrev with-it : tie.After-letters-added → ℕ
+with-it c =
+    let s = c .before .before .before .before .before .before .before .before .before .before .before .before in
+    s .args .count + c .letters-added .result
+
 returns-6 : tie.Need-returns-6
 returns-6 c =
     let more = c .before .letters-added .ensures .0 in
-    sym (left-5 (c .before .before) ∙ rw (← more, lt-ltb _ _ (c .if6 .taken)))
+    let many : mostLetters < with-it (c .before) = omega arith in
+    sym (left-5 (c .before .before) ∙ rw (← more, lt-ltb _ _ many))
 
 left-6 : (c : tie.Else6)
     → Left (c .before .before .before .before .before .before .before .before .before .before .before .before .before) 6
 left-6 c =
     let more = c .before .letters-added .ensures .0 in
-    left-5 (c .before .before) ∙ rw (← more, le-ltb _ _ (c .if6 .left))
+    let few : with-it (c .before) ≤ mostLetters = omega arith in
+    left-5 (c .before .before) ∙ rw (← more, le-ltb _ _ few)
 
 is-stray-end-requires : tie.Need-is-stray-end-requires
 is-stray-end-requires c κs = search needs

@@ -1,8 +1,10 @@
 use mathlib.Core.Path.{ap}
 use borrow.Author.Needs.{needs}
 use borrow.Author.Tests.{eq-eqb, ne-eqb}
+use Prim.Native.Nat.{_+_, _<_}
 use native.Mathlib.Nat.{add-assoc}
 use native.Mathlib.Omega.{arith}
+use lib.ListN.{length}
 use lib.Seq.{getD-drop}
 use Rattle.tape.specs.Command.{width}
 use Rattle.tape.proofs.command.style_inside.Statement.{statement}
@@ -17,23 +19,27 @@ returns c = simp (eq-eqb _ _ (c .if1 .taken))
 returns-2 : tie.Need-returns-2
 returns-2 c = simp (ne-eqb _ _ (c .before .if1 .left), eq-eqb _ _ (c .if2 .taken))
 
+-- a color's operands are there, by the table
+whole : (c : tie.Then3) → let a = c .before .before .before .before .args in a .at + width 0x08 < length (a .tape .now)
+whole c = omega (arith, ap width (c .if3 .taken))
+
 add-t18 : tie.Need-add-t18
 add-t18 c = search needs
 
 shared-slice-read-t20 : tie.Need-shared-slice-read-t20
-shared-slice-read-t20 c = omega (arith, ap width (c .before .if3 .taken))
+shared-slice-read-t20 c = let h = whole (c .before) in omega arith
 
 add-t21 : tie.Need-add-t21
 add-t21 c = search needs
 
 shared-slice-read-t23 : tie.Need-shared-slice-read-t23
-shared-slice-read-t23 c = omega (arith, ap width (c .before .before .if3 .taken))
+shared-slice-read-t23 c = let h = whole (c .before .before) in omega arith
 
 add-t24 : tie.Need-add-t24
 add-t24 c = search needs
 
 shared-slice-read-t26 : tie.Need-shared-slice-read-t26
-shared-slice-read-t26 c = omega (arith, ap width (c .before .before .before .if3 .taken))
+shared-slice-read-t26 c = let h = whole (c .before .before .before) in omega arith
 
 returns-3 : tie.Need-returns-3
 returns-3 c =

@@ -216,7 +216,7 @@ letters : (t : ℕ) (c : of-list list.After-read-letters t) →
     (c .before .before .before .after .given .0 .0) (c .read-letters .result)
 letters t c =
     let a = c .before .before .before .before .before .before .before .before .before .before .before .before .before .before .before .before .before .before .args in
-    c .read-letters .ensures (a .name) (a .depth)
+    c .read-letters .ensures .went (a .name) (a .depth)
 
 read-list-loop-less : (t : ℕ) → of-list list.Need-loop-less t
 read-list-loop-less t c =
