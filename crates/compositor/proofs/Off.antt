@@ -14,7 +14,7 @@ use Rattle.font.proofs.Rows.{rows-kept, stroke-above, stroke-below}
 use Rattle.tape.specs.Runs.{Letter}
 use Rattle.wrap.specs.Laid.{lettersOn, columnsOn}
 use Rattle.compositor.specs.declared.Settings.{Settings}
-use Rattle.compositor.specs.declared.strokes.Rows.{Rows}
+use Rattle.font.specs.declared.paint.Rows.{Rows}
 use Rattle.compositor.specs.declared.strokes.Window.{Window}
 use Rattle.compositor.specs.Layout.{lineHeight, baseLine, lineWidth, lineStart}
 use Rattle.compositor.specs.Outline.{onRing, outlineOf, ringRow, ringRows, ring}

@@ -7,8 +7,11 @@ use native.Mathlib.Omega.{arith}
 use native.Mathlib.Numerals.{add-one}
 use borrow.Author.Tests.{eq-eqb, ne-eqb}
 use lib.ListN.{length, length-append}
+use Rattle.font.specs.declared.Pen.{Pen}
+use Rattle.font.specs.declared.paint.Spot.{Spot}
 use Rattle.compositor.specs.Outline.{distance, onRing, ringRow, ringRows, ring}
-use Rattle.compositor.specs.Strokes.{Stroke, outlineStrokes}
+use Rattle.compositor.specs.Strokes.{Stroke}
+use Rattle.compositor.specs.Painting.{strokesOf}
 
 -- the first offset of a row, and the others
 pub row-first : (o dy dx n : ℕ) → ringRow o dy dx (suc n) ≡ ringRow o dy dx 1 ++ ringRow o dy (suc dx) n
@@ -30,9 +33,9 @@ unfolding ringRow
 one-off o dy dx e = rw e
 
 -- loops over a row's columns, and over the rows
-module _ (glyph offsets k : List ℕ) (o x base : ℕ) where
-  abbrev pub strokes : List (ℕ × ℕ) → List Stroke
-  strokes = outlineStrokes glyph offsets k o x base
+module _ (code : ℕ) (pen : Pen) (o : ℕ) (at : Spot) where
+  abbrev strokes : List (ℕ × ℕ) → List Stroke
+  strokes = strokesOf code pen o at
 
   abbrev pub rowLeft : ℕ → ℕ → List Stroke
   rowLeft dy dx = strokes (ringRow o dy dx (2 * o + 1 - dx))

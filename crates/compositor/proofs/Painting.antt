@@ -10,11 +10,12 @@ use lib.ListN.{length, take, drop, length-append, length-take, drop-of-length-le
 use lib.Seq.{slice, take-nil}
 use Rattle.font.specs.Stroke.{eachRow}
 use Rattle.font.proofs.Rows.{rows-then, rows-kept, stroke-length}
-use Rattle.compositor.specs.declared.strokes.Rows.{Rows}
+use Rattle.font.specs.declared.paint.Rows.{Rows}
 use Rattle.compositor.specs.declared.strokes.Window.{Window}
 use Rattle.compositor.specs.Strokes.{Stroke}
 use Rattle.compositor.specs.Picture.{strokeOn, strokesOn}
-use Rattle.compositor.specs.Painting.{Lent, cut, misses, after, painted, Painted}
+use Rattle.font.specs.Places.{Lent}
+use Rattle.compositor.specs.Painting.{cut, misses, after, painted, Painted}
 
 -- ---- on a row
 

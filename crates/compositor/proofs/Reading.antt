@@ -1,43 +1,59 @@
 -- Letters and lines read back from the workspace: one letter and one line after the other, as loops go.
-use mathlib.Core.Path.{_≡_, _∙_, refl, sym, ap}
+use mathlib.Core.Path.{_≡_, _∙_, refl, sym, ap, subst}
 use mathlib.Core.Bool.{Bool, true, false, cond}
-use mathlib.Core.List.{List, [], _++_}
+use mathlib.Core.List.{List, [], _∷_, _++_}
 use Prim.Native.Nat.{ℕ, zero, suc, _+_, _-_, _≤_, _<_}
 use native.Mathlib.Omega.{arith}
 use native.Mathlib.Numerals.{add-one}
 use lib.ListN.{length}
 use Rattle.font.specs.Font.{cellW, tableOf, glyphRows}
 use Rattle.font.specs.Slant.{rowOffsets}
+use Rattle.font.specs.declared.Pen.{Pen}
+use Rattle.font.specs.declared.paint.Spot.{Spot}
+use Rattle.font.specs.Shear.{penOf, Inked}
+use Rattle.font.proofs.Rounding.{leans-back, shear-of}
 use Rattle.tape.specs.Runs.{Letter}
 use Rattle.tape.specs.Stored.{letterAt}
 use Rattle.wrap.specs.Laid.{numberAt, lettersOn, columnsOn}
 use Rattle.compositor.specs.declared.Settings.{Settings}
 use Rattle.compositor.specs.Layout.{baseLine, lineWidth, lineStart}
-use Rattle.compositor.specs.Outline.{outlineOf}
+use Rattle.compositor.specs.Outline.{outlineOf, ring}
 use Rattle.compositor.specs.Strokes.{Stroke, glyphStrokes, colorOf, letterStrokes, lineStrokes}
 use Rattle.compositor.specs.Read.{lettersAt, lettersFrom, strokesAt, Readable}
-use Rattle.compositor.specs.Painting.{Fonts}
+use Rattle.compositor.specs.Painting.{Fonts, strokeOf, strokesOf}
 
 -- ---- a letter
 
-module _ {regular bold upright slanted : List ℕ} (fonts : Fonts regular bold upright slanted) where
+module _ {regular bold slanted : List ℕ} (fonts : Fonts regular bold slanted) where
   table-is : (b : Bool) → cond b bold regular ≡ tableOf b
   table-is true = fonts .bold-is
   table-is false = fonts .regular-is
 
-  pub glyph-is : (b : Bool) (code : ℕ) → glyphRows (cond b bold regular) code ≡ glyphRows (tableOf b) code
-  glyph-is b code = ap (λ (table : List ℕ). glyphRows table code) (table-is b)
-
-  pub offsets-are : (italic : Bool) → cond italic slanted upright ≡ rowOffsets italic
+  offsets-are : (italic : Bool) → cond italic slanted (rowOffsets false) ≡ rowOffsets italic
   offsets-are true = fonts .slanted-is
-  offsets-are false = fonts .upright-is
+  offsets-are false = refl
+
+  -- what is taken out of the tables is what a pen asks for
+  pub inked : (code : ℕ) (k : List ℕ) (b italic : Bool) {pen : Pen} {glyph offsets : List ℕ} → pen ≡ penOf k b italic
+      → glyph ≡ glyphRows (cond b bold regular) code → offsets ≡ cond italic slanted (rowOffsets false) → Inked code pen glyph offsets
+  inked code k b italic {pen} {glyph} {offsets} p g f =
+      subst (λ (q : Pen). Inked code q glyph offsets) (sym p)
+      record {
+        shear = shear-of italic;
+        glyph-is = g ∙ ap (λ (table : List ℕ). glyphRows table code) (table-is b);
+        offsets-are = f ∙ offsets-are italic ∙ ap rowOffsets (sym (leans-back italic));
+      }
 
 module _ (s : Settings) where
-  -- its strokes, from their parts
-  pub letter-strokes : (l : Letter) (x base : ℕ) {glyph offsets k own : List ℕ} {o : ℕ} → glyph ≡ glyphRows (tableOf (l .style .bold)) (l .code)
-      → offsets ≡ rowOffsets (l .style .italic) → k ≡ s .«outline_color» → own ≡ colorOf (l .style) → o ≡ outlineOf s
-      → glyphStrokes glyph offsets k own o x base ≡ letterStrokes s l x base
-  letter-strokes l x base g f p q r i = glyphStrokes (g i) (f i) (p i) (q i) (r i) x base
+  -- its strokes are those of its two pens
+  pub letter-strokes : (l : Letter) (at : Spot) {code o : ℕ} {outline own : Pen} → code ≡ l .code → o ≡ outlineOf s
+      → outline ≡ penOf (s .«outline_color») (l .style .bold) (l .style .italic) → own ≡ penOf (colorOf (l .style)) (l .style .bold) (l .style .italic)
+      → strokesOf code outline o at (ring o) ++ (strokeOf code own at ∷ []) ≡ letterStrokes s l (at .x) (at .base)
+  unfolding glyphStrokes
+  letter-strokes l at c r p q =
+      (λ i. strokesOf (c i) (p i) (r i) at (ring (r i)) ++ (strokeOf (c i) (q i) at ∷ []))
+      ∙ λ i. glyphStrokes (glyphRows (tableOf (l .style .bold)) (l .code)) (rowOffsets (leans-back (l .style .italic) i)) (s .«outline_color») (colorOf (l .style))
+      (outlineOf s) (at .x) (at .base)
 
   module _ (ws : List ℕ) where
     -- ---- the letters of a line, n of them from the k-th on, of which i are drawn

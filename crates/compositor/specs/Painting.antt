@@ -9,31 +9,33 @@ use lib.Seq.{slice}
 use Rattle.font.specs.Font.{cellH, bearingY, tableOf}
 use Rattle.font.specs.Slant.{rowOffsets}
 use Rattle.font.specs.Stroke.{origin, eachRow}
-use Rattle.compositor.specs.declared.strokes.Rows.{Rows}
+use Rattle.font.specs.Shear.{penGlyph, penOffsets}
+use Rattle.font.specs.declared.Pen.{Pen}
+use Rattle.font.specs.declared.paint.Rows.{Rows}
+use Rattle.font.specs.declared.paint.Spot.{Spot}
 use Rattle.compositor.specs.declared.strokes.Window.{Window}
-use Rattle.compositor.specs.Strokes.{Stroke}
+use Rattle.compositor.specs.Strokes.{Stroke, stroke, outlineStrokes}
 use Rattle.compositor.specs.Picture.{strokesOn}
 
--- a part of n bytes holds these rows of a picture
-pub record Lent (n : ℕ) (rows : Rows) : Type 0 where
-  pub narrow : rows .width ≤ 4096
-  pub short : rows .count ≤ 4096
-  pub high : rows .first ≤ 4096
-  pub long : rows .count * (4 * rows .width) ≤ n
+-- a spot that is not too far off, for a glyph and its outline
+pub record Near (at : Spot) : Type 0 where
+  pub x-least : 16 ≤ at .x
+  pub x-most : at .x + 16 < 2 * origin
+  pub base-least : 32 ≤ at .base
+  pub base-most : at .base + 16 < 2 * origin
 
--- a place that is not too far off, for a glyph and its outline
-pub record Near (x base : ℕ) : Type 0 where
-  pub x-least : 16 ≤ x
-  pub x-most : x + 16 < 2 * origin
-  pub base-least : 32 ≤ base
-  pub base-most : base + 16 < 2 * origin
-
--- the two tables, and the offsets of an upright and of an italic pen
-pub record Fonts (regular bold upright slanted : List ℕ) : Type 0 where
+-- the two tables, and the offsets of an italic pen
+pub record Fonts (regular bold slanted : List ℕ) : Type 0 where
   pub regular-is : regular ≡ tableOf false
   pub bold-is : bold ≡ tableOf true
-  pub upright-is : upright ≡ rowOffsets false
   pub slanted-is : slanted ≡ rowOffsets true
+
+-- the stroke of a code point by a pen, and its strokes at the offsets ds of an outline of o
+abbrev pub strokeOf : ℕ → Pen → Spot → Stroke
+strokeOf code pen at = stroke (penGlyph code pen) (penOffsets pen) (pen .color) (at .x) (at .base)
+
+abbrev pub strokesOf : ℕ → Pen → ℕ → Spot → List (ℕ × ℕ) → List Stroke
+strokesOf code pen o at ds = outlineStrokes (penGlyph code pen) (penOffsets pen) (pen .color) o (at .x) (at .base) ds
 
 -- those of the strokes ts that a window has, and the window counted from the strokes after n others
 abbrev pub cut : Window → List Stroke → List Stroke

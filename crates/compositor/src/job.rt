@@ -18,8 +18,8 @@ use crate::Answer;
 use crate::Cue;
 use crate::Settings;
 use crate::strokes;
-use crate::strokes::Rows;
 use crate::strokes::Window;
+use font::Rows;
 
 const MOST_STRIPES: usize = 64;
 

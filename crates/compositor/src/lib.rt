@@ -17,7 +17,7 @@ ghost use Rattle.compositor.specs.Draw.{tapeStrokes, refuseSettings};
 ghost use Rattle.compositor.specs.Drawn.{Drawn};
 ghost use Rattle.compositor.specs.Read.{strokesAt};
 ghost use Rattle.compositor.specs.Ready.{InRange, Admitted, Checked, Lined, CueRead};
-use strokes::Rows;
+use font::Rows;
 use strokes::Window;
 use tape::Style;
 

@@ -1,33 +1,36 @@
 // The painter: the strokes of letters, in their one order, on lent rows of a picture.
 ghost use mathlib.Core.Path.{_≡_};
-ghost use mathlib.Core.Bool.{cond};
+ghost use mathlib.Core.Bool.{false, cond};
 ghost use mathlib.Core.List.{[], _∷_};
 ghost use Prim.Native.Nat.{_+_, _-_, _*_, _≤_, _<_};
 ghost use lib.ListN.{length};
 ghost use Rattle.font.specs.Font.{glyphRows};
+ghost use Rattle.font.specs.Slant.{rowOffsets};
 ghost use Rattle.font.specs.Stroke.{origin};
+ghost use Rattle.font.specs.Shear.{Inked};
+ghost use Rattle.font.specs.Places.{Lent, Reachable};
 ghost use Rattle.tape.specs.Stored.{letterAt};
 ghost use Rattle.wrap.specs.Laid.{columnsOn};
 ghost use Rattle.compositor.specs.Layout.{lineWidth, lineStart};
 ghost use Rattle.compositor.specs.Outline.{distance, onRing, ringRow, ring};
-ghost use Rattle.compositor.specs.Strokes.{stroke, outlineStrokes, letterStrokes, lineStrokes};
+ghost use Rattle.compositor.specs.Strokes.{letterStrokes, lineStrokes};
 ghost use Rattle.compositor.specs.Read.{lettersAt, lettersFrom, strokesAt, Readable};
-ghost use Rattle.compositor.specs.Painting.{Lent, Near, Fonts, cut, misses, after, offRows, painted, Painted};
+ghost use Rattle.compositor.specs.Painting.{Near, Fonts, strokeOf, strokesOf, cut, misses, after, offRows, painted, Painted};
 ghost use Rattle.compositor.specs.Ready.{InRange};
 use crate::Settings;
 use crate::layout;
 use font::BitmapFont;
 use font::ORIGIN;
 use font::Pen;
+use font::Rows;
+use font::Spot;
 use tape::letter;
 use wrap::laid;
 
-// The rows of a picture that are lent: `count` rows of `width` pixels, the first of which is the
-// picture's row `first`.
-pub struct Rows {
-    pub width: usize,
-    pub count: usize,
-    pub first: usize,
+// Letters on lines: so many, from the `first` on.
+struct Span {
+    first: usize,
+    letters: usize,
 }
 
 // Which strokes are drawn: those from number `from` up to number `to`, counted from the first of
@@ -59,35 +62,25 @@ impl Window {
     }
 }
 
-// Draws one stroke, if the window has it.
+// Draws one stroke, if the window has it. `code` is the code point whose glyph is lent, here and in
+// the functions of an outline.
 fn draw_stroke(
     part: &mut [u8],
     rows: Rows,
+    code: u32,
     glyph: &[u8; 16],
     offsets: &[u8; 16],
-    x: usize,
-    y: usize,
+    at: Spot,
     pen: Pen,
     window: Window,
 ) -> Window
-    requires { ⌜ Lent (length (now part)) rows × (8 ≤ x) × (x < 2 * origin) × (12 ≤ y) × (y < 2 * origin) ⌝ }
-    ensures { λ r. ⌜ Painted rows (stroke (now (glyph .entry)) (now (offsets .entry)) (pen .color) x y ∷ [])
-        window (now (part .entry)) (now (part .exit)) r ⌝ }
+    requires { ⌜ Lent (length (now part)) rows × Reachable at × Inked code pen (now glyph) (now offsets) ⌝ }
+    ensures { λ r. ⌜ Painted rows (strokeOf code pen at ∷ []) window (now (part .entry)) (now (part .exit)) r ⌝ }
 {
     if window.misses(1) {
         return window.past(1);
     }
-    font::draw_glyph_sheared(
-        part,
-        rows.width,
-        rows.count,
-        rows.first,
-        glyph,
-        offsets,
-        x,
-        y,
-        pen,
-    );
+    font::draw_glyph_sheared(part, rows, code, glyph, offsets, at, pen);
     window.past(1)
 }
 
@@ -110,58 +103,52 @@ fn is_on_ring(o: usize, dx: usize, dy: usize) -> bool
 fn draw_offset(
     part: &mut [u8],
     rows: Rows,
+    code: u32,
     glyph: &[u8; 16],
     offsets: &[u8; 16],
-    x: usize,
-    y: usize,
+    at: Spot,
     pen: Pen,
     o: usize,
     dx: usize,
     dy: usize,
     window: Window,
 ) -> Window
-    requires { ⌜ Lent (length (now part)) rows × Near x y × (o ≤ 2) × (dx ≤ 2 * o) × (dy ≤ 2 * o) ⌝ }
-    ensures { λ r. ⌜ Painted rows
-        (outlineStrokes (now (glyph .entry)) (now (offsets .entry)) (pen .color) o x y (ringRow o dy dx 1))
+    requires { ⌜ Lent (length (now part)) rows × Near at × Inked code pen (now glyph) (now offsets)
+        × (o ≤ 2) × (dx ≤ 2 * o) × (dy ≤ 2 * o) ⌝ }
+    ensures { λ r. ⌜ Painted rows (strokesOf code pen o at (ringRow o dy dx 1))
         window (now (part .entry)) (now (part .exit)) r ⌝ }
 {
     if !is_on_ring(o, dx, dy) {
         return window;
     }
-    draw_stroke(
-        part,
-        rows,
-        glyph,
-        offsets,
-        x + dx - o,
-        y + dy - o,
-        pen,
-        window,
-    )
+    let x = at.x + dx - o;
+    let base = at.base + dy - o;
+    let beside = Spot { x, base };
+    draw_stroke(part, rows, code, glyph, offsets, beside, pen, window)
 }
 
 // Draws the strokes of the outline's row dy.
 fn draw_ring_row(
     part: &mut [u8],
     rows: Rows,
+    code: u32,
     glyph: &[u8; 16],
     offsets: &[u8; 16],
-    x: usize,
-    y: usize,
+    at: Spot,
     pen: Pen,
     o: usize,
     dy: usize,
     window: Window,
 ) -> Window
-    requires { ⌜ Lent (length (now part)) rows × Near x y × (o ≤ 2) × (dy ≤ 2 * o) ⌝ }
-    ensures { λ r. ⌜ Painted rows
-        (outlineStrokes (now (glyph .entry)) (now (offsets .entry)) (pen .color) o x y (ringRow o dy 0 (2 * o + 1)))
+    requires { ⌜ Lent (length (now part)) rows × Near at × Inked code pen (now glyph) (now offsets)
+        × (o ≤ 2) × (dy ≤ 2 * o) ⌝ }
+    ensures { λ r. ⌜ Painted rows (strokesOf code pen o at (ringRow o dy 0 (2 * o + 1)))
         window (now (part .entry)) (now (part .exit)) r ⌝ }
 {
     let mut left = window;
     let mut dx = 0;
     while dx < 2 * o + 1 {
-        left = draw_offset(part, rows, glyph, offsets, x, y, pen, o, dx, dy, left);
+        left = draw_offset(part, rows, code, glyph, offsets, at, pen, o, dx, dy, left);
         dx += 1;
     }
     left
@@ -171,18 +158,16 @@ fn draw_ring_row(
 fn draw_outline(
     part: &mut [u8],
     rows: Rows,
+    code: u32,
     glyph: &[u8; 16],
     offsets: &[u8; 16],
-    x: usize,
-    y: usize,
+    at: Spot,
     pen: Pen,
     o: usize,
     window: Window,
 ) -> Window
-    requires { ⌜ Lent (length (now part)) rows × Near x y × (o ≤ 2) ⌝ }
-    ensures { λ r. ⌜ Painted rows
-        (outlineStrokes (now (glyph .entry)) (now (offsets .entry)) (pen .color) o x y (ring o))
-        window (now (part .entry)) (now (part .exit)) r ⌝ }
+    requires { ⌜ Lent (length (now part)) rows × Near at × Inked code pen (now glyph) (now offsets) × (o ≤ 2) ⌝ }
+    ensures { λ r. ⌜ Painted rows (strokesOf code pen o at (ring o)) window (now (part .entry)) (now (part .exit)) r ⌝ }
 {
     if o == 0 {
         return window;
@@ -190,7 +175,7 @@ fn draw_outline(
     let mut left = window;
     let mut dy = 0;
     while dy < 2 * o + 1 {
-        left = draw_ring_row(part, rows, glyph, offsets, x, y, pen, o, dy, left);
+        left = draw_ring_row(part, rows, code, glyph, offsets, at, pen, o, dy, left);
         dy += 1;
     }
     left
@@ -206,10 +191,11 @@ fn glyph_of(regular: &[u8; 4096], bold: &[u8; 4096], is_bold: bool, code: u32) -
     font::glyph_rows(regular, code)
 }
 
-fn offsets_of(upright: &[u8; 16], slanted: &[u8; 16], italic: bool) -> [u8; 16]
-    ensures { λ r. ⌜ r ≡ cond italic (now (slanted .entry)) (now (upright .entry)) ⌝ }
+// A letter's offsets. The rows of an upright letter stay: 8 each.
+fn offsets_of(slanted: &[u8; 16], italic: bool) -> [u8; 16]
+    ensures { λ r. ⌜ r ≡ cond italic (now (slanted .entry)) (rowOffsets false) ⌝ }
 {
-    if italic { *slanted } else { *upright }
+    if italic { *slanted } else { [8; 16] }
 }
 
 // Draws a letter of the workspace: its outline, and then itself. Where the window has none of its
@@ -219,18 +205,16 @@ fn draw_letter(
     rows: Rows,
     regular: &[u8; 4096],
     bold: &[u8; 4096],
-    upright: &[u8; 16],
     slanted: &[u8; 16],
     ws: &[u8],
     number: usize,
     s: Settings,
-    x: usize,
-    y: usize,
+    at: Spot,
     window: Window,
 ) -> Window
-    requires { ⌜ Lent (length (now part)) rows × Fonts (now regular) (now bold) (now upright) (now slanted)
-        × (8 * number + 8 ≤ length (now ws)) × Near x y ⌝ }
-    ensures { λ r. ⌜ Painted rows (letterStrokes s (letterAt (now (ws .entry)) number) x y)
+    requires { ⌜ Lent (length (now part)) rows × Fonts (now regular) (now bold) (now slanted)
+        × (8 * number + 8 ≤ length (now ws)) × Near at ⌝ }
+    ensures { λ r. ⌜ Painted rows (letterStrokes s (letterAt (now (ws .entry)) number) (at .x) (at .base))
         window (now (part .entry)) (now (part .exit)) r ⌝ }
 {
     let strokes = s.letter_strokes();
@@ -239,8 +223,6 @@ fn draw_letter(
     }
     let code = letter::code(ws, number);
     let style = letter::style(ws, number);
-    let glyph = glyph_of(regular, bold, style.bold, code);
-    let offsets = offsets_of(upright, slanted, style.italic);
     let around = s.outline_color;
     let outline = Pen::new(around, style.bold, style.italic);
     let own = Pen::new(
@@ -248,61 +230,42 @@ fn draw_letter(
         style.bold,
         style.italic,
     );
-    let left = draw_outline(
-        part,
-        rows,
-        &glyph,
-        &offsets,
-        x,
-        y,
-        outline,
-        s.outline(),
-        window,
-    );
-    draw_stroke(part, rows, &glyph, &offsets, x, y, own, left)
+    let glyph = glyph_of(regular, bold, own.bold, code);
+    let offsets = offsets_of(slanted, style.italic);
+    let o = s.outline();
+    let left = draw_outline(part, rows, code, &glyph, &offsets, at, outline, o, window);
+    draw_stroke(part, rows, code, &glyph, &offsets, at, own, left)
 }
 
-// Draws letters on lines, so many from the `first` on, the first of them at place x.
+// Draws letters on lines, the first of them at the spot `start`.
 fn draw_line(
     part: &mut [u8],
     rows: Rows,
     regular: &[u8; 4096],
     bold: &[u8; 4096],
-    upright: &[u8; 16],
     slanted: &[u8; 16],
     ws: &[u8],
-    first: usize,
-    letters: usize,
+    span: Span,
     s: Settings,
-    x: usize,
-    y: usize,
+    start: Spot,
     window: Window,
 ) -> Window
-    requires { ⌜ Lent (length (now part)) rows × Fonts (now regular) (now bold) (now upright) (now slanted)
-        × Readable (now ws) (first + letters) × Near x y × (x ≤ origin + 4096) ⌝ }
-    ensures { λ r. ⌜ Painted rows (lineStrokes s x y (lettersAt (now (ws .entry)) first letters))
+    requires { ⌜ Lent (length (now part)) rows × Fonts (now regular) (now bold) (now slanted)
+        × Readable (now ws) (span .first + span .letters) × Near start × (start .x ≤ origin + 4096) ⌝ }
+    ensures { λ r. ⌜ Painted rows (lineStrokes s (start .x) (start .base) (lettersAt (now (ws .entry)) (span .first) (span .letters)))
         window (now (part .entry)) (now (part .exit)) r ⌝ }
 {
     let mut left = window;
-    let mut at = x;
+    let mut x = start.x;
     let mut i = 0;
-    while i < letters {
-        let number = laid::number(ws, first + i);
-        left = draw_letter(
-            part,
-            rows,
-            regular,
-            bold,
-            upright,
-            slanted,
-            ws,
-            number,
-            s,
-            at,
-            y,
-            left,
-        );
-        at += BitmapFont::CELL_W as usize;
+    while i < span.letters {
+        let number = laid::number(ws, span.first + i);
+        let at = Spot {
+            x,
+            base: start.base,
+        };
+        left = draw_letter(part, rows, regular, bold, slanted, ws, number, s, at, left);
+        x += BitmapFont::CELL_W as usize;
         i += 1;
     }
     left
@@ -322,52 +285,40 @@ fn is_off(rows: Rows, high: usize, low: usize, o: usize) -> bool
     top + rows.count + o + BitmapFont::BEARING_Y as usize <= high
 }
 
-// Draws a line of the workspace's table at place y, its letters from the `first` on. Where it misses
-// the lent rows, or the window has none of its strokes, no letter is looked at.
+// Draws a line of the workspace's table, the letters of a span, its base line at place y. Where it
+// misses the lent rows, or the window has none of its strokes, no letter is looked at.
 fn place_line(
     part: &mut [u8],
     rows: Rows,
     regular: &[u8; 4096],
     bold: &[u8; 4096],
-    upright: &[u8; 16],
     slanted: &[u8; 16],
     ws: &[u8],
     line: usize,
-    first: usize,
-    letters: usize,
+    span: Span,
     s: Settings,
     y: usize,
     window: Window,
 ) -> Window
-    requires { ⌜ Lent (length (now part)) rows × Fonts (now regular) (now bold) (now upright) (now slanted)
-        × Readable (now ws) (first + letters) × InRange s × (line ≤ 4096) × (32 ≤ y) × (y + 16 < 2 * origin) ⌝ }
+    requires { ⌜ Lent (length (now part)) rows × Fonts (now regular) (now bold) (now slanted)
+        × Readable (now ws) (span .first + span .letters) × InRange s × (line ≤ 4096) × (32 ≤ y) × (y + 16 < 2 * origin) ⌝ }
     ensures { λ r. ⌜ Painted rows
-        (lineStrokes s (lineStart s (lineWidth (columnsOn (now (ws .entry)) line))) y (lettersAt (now (ws .entry)) first letters))
+        (lineStrokes s (lineStart s (lineWidth (columnsOn (now (ws .entry)) line))) y
+        (lettersAt (now (ws .entry)) (span .first) (span .letters)))
         window (now (part .entry)) (now (part .exit)) r ⌝ }
 {
-    let strokes = letters * s.letter_strokes();
+    let strokes = span.letters * s.letter_strokes();
     if is_off(rows, y, y, s.outline()) {
         return window.past(strokes);
     }
     if window.misses(strokes) {
         return window.past(strokes);
     }
-    let x = layout::line_start(s, layout::measure_line(ws, line));
-    draw_line(
-        part,
-        rows,
-        regular,
-        bold,
-        upright,
-        slanted,
-        ws,
-        first,
-        letters,
-        s,
-        x,
-        y,
-        window,
-    )
+    let at = Spot {
+        x: layout::line_start(s, layout::measure_line(ws, line)),
+        base: y,
+    };
+    draw_line(part, rows, regular, bold, slanted, ws, span, s, at, window)
 }
 
 // Draws the lines of the workspace's table, so many, from the top down.
@@ -376,14 +327,13 @@ fn draw_each_line(
     rows: Rows,
     regular: &[u8; 4096],
     bold: &[u8; 4096],
-    upright: &[u8; 16],
     slanted: &[u8; 16],
     ws: &[u8],
     s: Settings,
     lines: usize,
     window: Window,
 )
-    requires { ⌜ Lent (length (now part)) rows × Fonts (now regular) (now bold) (now upright) (now slanted)
+    requires { ⌜ Lent (length (now part)) rows × Fonts (now regular) (now bold) (now slanted)
         × Readable (now ws) (lettersFrom (now ws) 0 lines) × InRange s × (lines ≤ 4097) ⌝ }
     ensures { λ _. ⌜ now (part .exit) ≡ painted rows (cut window (strokesAt s (now (ws .entry)) 0 0 lines)) (now (part .entry)) ⌝ }
 {
@@ -392,22 +342,9 @@ fn draw_each_line(
     let mut i = 0;
     while i < lines {
         let letters = laid::letters_on(ws, i);
+        let span = Span { first, letters };
         let y = layout::baseline(s, lines - 1 - i);
-        left = place_line(
-            part,
-            rows,
-            regular,
-            bold,
-            upright,
-            slanted,
-            ws,
-            i,
-            first,
-            letters,
-            s,
-            y,
-            left,
-        );
+        left = place_line(part, rows, regular, bold, slanted, ws, i, span, s, y, left);
         first += letters;
         i += 1;
     }
@@ -431,20 +368,7 @@ pub fn draw_lines(part: &mut [u8], rows: Rows, ws: &[u8], s: Settings, lines: us
     let regular = font.table();
     let heavy = BitmapFont::default_bold();
     let bold = heavy.table();
-    let plain = Pen::new([0; 4], false, false);
-    let upright = plain.row_offsets();
     let italic = Pen::new([0; 4], false, true);
     let slanted = italic.row_offsets();
-    draw_each_line(
-        part,
-        rows,
-        &regular,
-        &bold,
-        &upright,
-        &slanted,
-        ws,
-        s,
-        lines,
-        window,
-    );
+    draw_each_line(part, rows, &regular, &bold, &slanted, ws, s, lines, window);
 }

@@ -2,19 +2,24 @@
 use Prim.Native.Nat.{ℕ, _+_, _-_, _*_, _≤_, _<_}
 use Rattle.font.specs.Font.{bearingY}
 use Rattle.font.specs.Stroke.{origin}
+use Rattle.font.specs.declared.paint.Rows.{Rows}
+use Rattle.font.specs.declared.paint.Spot.{Spot}
 
 -- the eight columns of a glyph, the first at place x, all lie on a row of n bytes
 pub record Inside (n x : ℕ) : Type 0 where
   pub left : origin ≤ x
   pub right : 4 * (x - origin) + 32 ≤ n
 
--- a part of n bytes holds rows of a picture from its row `first` on, and a stroke's place is not too far off
-pub record Part (n width rows first x y : ℕ) : Type 0 where
-  pub narrow : width ≤ 4096
-  pub short : rows ≤ 4096
-  pub high : first ≤ 4096
-  pub long : rows * (4 * width) ≤ n
-  pub x-least : 8 ≤ x
-  pub x-most : x < 2 * origin
-  pub y-least : bearingY ≤ y
-  pub y-most : y < 2 * origin
+-- a part of n bytes holds these rows of a picture
+pub record Lent (n : ℕ) (rows : Rows) : Type 0 where
+  pub narrow : rows .width ≤ 4096
+  pub short : rows .count ≤ 4096
+  pub high : rows .first ≤ 4096
+  pub long : rows .count * (4 * rows .width) ≤ n
+
+-- a spot that is not too far off, for a glyph
+pub record Reachable (at : Spot) : Type 0 where
+  pub x-least : 8 ≤ at .x
+  pub x-most : at .x < 2 * origin
+  pub base-least : bearingY ≤ at .base
+  pub base-most : at .base < 2 * origin

@@ -1,19 +1,21 @@
--- Promises: fonts and pens as the code has them, and the slant as it works it out, in f32. `Slant` says what comes out of it; no reader of the
--- deposit needs this file.
+-- Promises: fonts and pens as the code has them, what is lent beside a pen, and the slant as the code works it out, in f32. `Slant` says what
+-- comes out of it; no reader of the deposit needs this file.
 use mathlib.Core.Path.{_≡_}
 use mathlib.Core.Bool.{Bool, true, false}
 use mathlib.Core.List.{List}
 use Prim.Native.Nat.{ℕ, _+_, _-_, _*_, _<_}
 use lib.IntN.{pos, _-ℤ_}
 use lib.Ieee.{Float, nan, inf, fin, binary32, ofInt, lt, mul, div, up, down}
-use Rattle.font.specs.Font.{cellW, cellH, bearingY}
-use Rattle.font.specs.Slant.{nearest}
+use Rattle.font.specs.Font.{cellW, cellH, bearingY, tableOf, glyphRows}
+use Rattle.font.specs.Slant.{nearest, rowOffsets}
+use Rattle.font.specs.Stroke.{strokeRow}
 use Rattle.font.specs.declared.BitmapFont.{BitmapFont}
 use Rattle.font.specs.declared.Pen.{Pen}
+use Rattle.font.specs.declared.paint.Spot.{Spot}
 
 -- the font of a bold mark
 abbrev pub fontOf : Bool → BitmapFont
-fontOf b = record { «cell_w» = cellW; «cell_h» = cellH; «bearing_y» = bearingY; bold = b }
+fontOf b = record { bold = b }
 
 abbrev pub float : ℕ → Float
 float n = ofInt binary32 (pos n)
@@ -36,6 +38,23 @@ leans x = lt (float 0) x
 -- x is the shear of one of the two pens
 pub record Shear (x : Float) : Type 0 where
   pub is : x ≡ shearOf (leans x)
+
+-- the rows of a code point's glyph in the font that a pen's bold mark picks, and how far the pen moves them
+abbrev pub penGlyph : ℕ → Pen → List ℕ
+penGlyph code pen = glyphRows (tableOf (pen .bold)) code
+
+abbrev pub penOffsets : Pen → List ℕ
+penOffsets pen = rowOffsets (leans (pen .shear))
+
+-- what is lent beside a pen, for the stroke of a code point: exactly these
+pub record Inked (code : ℕ) (pen : Pen) (glyph offsets : List ℕ) : Type 0 where
+  pub shear : Shear (pen .shear)
+  pub glyph-is : glyph ≡ penGlyph code pen
+  pub offsets-are : offsets ≡ penOffsets pen
+
+-- the picture's row y with what the stroke of a code point by a pen has there
+abbrev pub penRow : ℕ → Pen → Spot → ℕ → List ℕ → List ℕ
+penRow code pen at y row = strokeRow (penGlyph code pen) (penOffsets pen) (pen .color) (at .x) (at .base) y row
 
 -- what row r of a pen moves by before it is rounded: product before quotient
 unfoldable pub moved : Bool → ℕ → Float

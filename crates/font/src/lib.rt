@@ -4,6 +4,8 @@ mod paint;
 mod tables;
 
 pub use paint::ORIGIN;
+pub use paint::Rows;
+pub use paint::Spot;
 pub use paint::draw_glyph_sheared;
 ghost use mathlib.Core.Path.{_≡_};
 ghost use mathlib.Core.Bool.{true, false};
@@ -13,12 +15,8 @@ ghost use Rattle.font.specs.Blend.{colorBytes};
 ghost use Rattle.font.specs.Slant.{rowOffset, rowOffsets};
 ghost use Rattle.font.specs.Shear.{fontOf, penOf, leans, Shear, Moved, rounded};
 
-// A font: its metrics in pixels, and the bold mark that picks its table. The base line lies
-// `bearing_y` rows below a cell's top.
+// A font: the bold mark that picks its table. The metrics, in pixels, are those of both fonts.
 pub struct BitmapFont {
-    pub cell_w: u32,
-    pub cell_h: u32,
-    pub bearing_y: u32,
     pub bold: bool,
 }
 
@@ -27,28 +25,19 @@ impl BitmapFont {
 
     pub const CELL_H: u32 = 16;
 
+    // How far the base line lies below a cell's top.
     pub const BEARING_Y: u32 = 12;
 
     pub fn default_regular() -> BitmapFont
         ensures { λ r. ⌜ r ≡ fontOf false ⌝ }
     {
-        BitmapFont {
-            cell_w: Self::CELL_W,
-            cell_h: Self::CELL_H,
-            bearing_y: Self::BEARING_Y,
-            bold: false,
-        }
+        BitmapFont { bold: false }
     }
 
     pub fn default_bold() -> BitmapFont
         ensures { λ r. ⌜ r ≡ fontOf true ⌝ }
     {
-        BitmapFont {
-            cell_w: Self::CELL_W,
-            cell_h: Self::CELL_H,
-            bearing_y: Self::BEARING_Y,
-            bold: true,
-        }
+        BitmapFont { bold: true }
     }
 
     // The font's rows. Each call lays the whole table out anew, so a caller takes it once and
@@ -93,7 +82,8 @@ pub fn color_bytes(color: u32) -> [u8; 4]
     ]
 }
 
-// What a stroke is drawn with.
+// What a stroke is drawn with: a color, the bold mark that picks the glyph, and how far the glyph's
+// rows are sheared.
 pub struct Pen {
     pub color: [u8; 4],
     pub bold: bool,

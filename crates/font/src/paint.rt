@@ -6,15 +6,30 @@ ghost use mathlib.Core.Path.{_≡_};
 ghost use mathlib.Core.Bool.{cond};
 ghost use mathlib.Core.List.{[], _∷_};
 ghost use Prim.Native.Nat.{_+_, _-_, _*_, _≤_, _<_, min};
-ghost use lib.ListN.{length, getD};
+ghost use lib.ListN.{length};
 ghost use Rattle.font.specs.Blend.{blendByte, blendAlpha, blendPixel};
-ghost use Rattle.font.specs.Stroke.{paintColumn, paintBit, paintRow, strokeRow, eachRow};
-ghost use Rattle.font.specs.Places.{Inside, Part};
+ghost use Rattle.font.specs.Stroke.{origin, paintColumn, paintBit, paintRow, strokeRow, eachRow};
+ghost use Rattle.font.specs.Shear.{penRow, Inked};
+ghost use Rattle.font.specs.Places.{Inside, Lent, Reachable};
 use crate::BitmapFont;
 use crate::Pen;
 
 // The place of the picture's column 0 and row 0.
 pub const ORIGIN: usize = 0x400_0000;
+
+// The rows of a picture that are lent: `count` rows of `width` pixels, the first of which is the
+// picture's row `first`.
+pub struct Rows {
+    pub width: usize,
+    pub count: usize,
+    pub first: usize,
+}
+
+// Where a glyph stands: the places of its left column and of its base line.
+pub struct Spot {
+    pub x: usize,
+    pub base: usize,
+}
 
 // The smaller of 255 and x.
 fn cap(x: u16) -> u16
@@ -153,78 +168,61 @@ fn paint_row(row: &mut [u8], x: usize, bits: u8, red: u8, green: u8, blue: u8, a
     paint_inside(row, x, bits, red, green, blue, alpha);
 }
 
-fn wide(x: u8) -> usize
-    ensures { λ r. ⌜ (r ≡ x) × (r < 256) ⌝ }
-{
-    x as usize
-}
-
-// Paints row r of a glyph, moved by its offset, into the picture's row on which it falls.
-fn draw_row(
-    row: &mut [u8],
-    glyph: &[u8; 16],
-    offsets: &[u8; 16],
-    r: usize,
-    x: usize,
-    red: u8,
-    green: u8,
-    blue: u8,
-    alpha: u8,
-)
-    requires { ⌜ (r < 16) × (8 ≤ x) × (x < 0x800_0000) ⌝ }
+// Paints a glyph's row, moved by its offset, into the picture's row on which it falls.
+fn draw_row(row: &mut [u8], x: usize, bits: u8, offset: u8, red: u8, green: u8, blue: u8, alpha: u8)
+    requires { ⌜ (8 ≤ x) × (x < 0x800_0000) ⌝ }
     ensures { λ _. ⌜ now (row .exit)
-        ≡ paintRow (red ∷ green ∷ blue ∷ alpha ∷ []) (getD (now (glyph .entry)) r 0)
-        (x + getD (now (offsets .entry)) r 0 - 8) (now (row .entry)) ⌝ }
+        ≡ paintRow (red ∷ green ∷ blue ∷ alpha ∷ []) bits (x + offset - 8) (now (row .entry)) ⌝ }
 {
-    let offset = wide(offsets[r]);
-    paint_row(row, x + offset - 8, glyph[r], red, green, blue, alpha);
+    paint_row(row, x + offset as usize - 8, bits, red, green, blue, alpha);
 }
 
-// How many of `rows` rows, the first at place `first`, lie above place y.
-fn rows_above(rows: usize, first: usize, y: usize) -> usize
-    ensures { λ r. ⌜ r ≡ min rows (y - first) ⌝ }
+// How many of the lent rows lie above place y.
+fn rows_above(rows: Rows, y: usize) -> usize
+    requires { ⌜ rows .first ≤ 4096 ⌝ }
+    ensures { λ r. ⌜ r ≡ min (rows .count) (y - (origin + rows .first)) ⌝ }
 {
-    if y <= first {
+    let start = ORIGIN + rows.first;
+    if y <= start {
         return 0;
     }
-    if rows < y - first { rows } else { y - first }
+    if rows.count < y - start {
+        rows.count
+    } else {
+        y - start
+    }
 }
 
 // Draws a glyph, row by row, with the four bytes of a color.
 fn draw_rows(
     part: &mut [u8],
-    width: usize,
-    rows: usize,
-    first: usize,
+    rows: Rows,
     glyph: &[u8; 16],
     offsets: &[u8; 16],
-    x: usize,
-    y: usize,
+    at: Spot,
     red: u8,
     green: u8,
     blue: u8,
     alpha: u8,
 )
-    requires { ⌜ Part (length (now part)) width rows first x y ⌝ }
+    requires { ⌜ Lent (length (now part)) rows × Reachable at ⌝ }
     ensures { λ _. ⌜ now (part .exit)
-        ≡ eachRow (strokeRow (now (glyph .entry)) (now (offsets .entry)) (red ∷ green ∷ blue ∷ alpha ∷ []) x y)
-        (4 * width) rows first (now (part .entry)) ⌝ }
+        ≡ eachRow (strokeRow (now (glyph .entry)) (now (offsets .entry)) (red ∷ green ∷ blue ∷ alpha ∷ []) (at .x) (at .base))
+        (4 * rows .width) (rows .count) (rows .first) (now (part .entry)) ⌝ }
 {
-    let size = 4 * width;
-    let top = y - BitmapFont::BEARING_Y as usize;
-    let start = ORIGIN + first;
-    let mut i = rows_above(rows, start, top);
-    let end = rows_above(rows, start, top + BitmapFont::CELL_H as usize);
+    let size = 4 * rows.width;
+    let top = at.base - BitmapFont::BEARING_Y as usize;
+    let mut i = rows_above(rows, top);
+    let end = rows_above(rows, top + BitmapFont::CELL_H as usize);
     while i < end {
         let a = i * size;
         let e = a + size;
-        let r = start + i - top;
+        let r = ORIGIN + rows.first + i - top;
         draw_row(
             &mut part[a..e],
-            glyph,
-            offsets,
-            r,
-            x,
+            at.x,
+            glyph[r],
+            offsets[r],
             red,
             green,
             blue,
@@ -234,24 +232,21 @@ fn draw_rows(
     }
 }
 
-// Draws a glyph into a part of the picture: `rows` rows of `width` pixels, the first of which is
-// the picture's row `first`. The glyph's left column is at place x and its base line at place y.
-// A clear color draws nothing.
+// Draws the glyph of a code point with a pen, into lent rows of a picture. The glyph's rows and the
+// offsets that the pen moves them by are lent too, so that strokes share them; `code` and the pen say
+// which they are. A clear color draws nothing.
 pub fn draw_glyph_sheared(
     part: &mut [u8],
-    width: usize,
-    rows: usize,
-    first: usize,
+    rows: Rows,
+    code: u32,
     glyph: &[u8; 16],
     offsets: &[u8; 16],
-    x: usize,
-    y: usize,
+    at: Spot,
     pen: Pen,
 )
-    requires { ⌜ Part (length (now part)) width rows first x y ⌝ }
+    requires { ⌜ Lent (length (now part)) rows × Reachable at × Inked code pen (now glyph) (now offsets) ⌝ }
     ensures { λ _. ⌜ now (part .exit)
-        ≡ eachRow (strokeRow (now (glyph .entry)) (now (offsets .entry)) (pen .color) x y)
-        (4 * width) rows first (now (part .entry)) ⌝ }
+        ≡ eachRow (penRow code pen at) (4 * rows .width) (rows .count) (rows .first) (now (part .entry)) ⌝ }
 {
     let color = pen.color;
     if color[3] == 0 {
@@ -259,13 +254,10 @@ pub fn draw_glyph_sheared(
     }
     draw_rows(
         part,
-        width,
         rows,
-        first,
         glyph,
         offsets,
-        x,
-        y,
+        at,
         color[0],
         color[1],
         color[2],

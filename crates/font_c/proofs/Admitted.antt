@@ -5,7 +5,9 @@ use Prim.Native.Nat.{ℕ, _*_, _/_, _≤_, _<_}
 use native.Mathlib.Omega.{arith}
 use lib.Dec.{T, leb, ltb, leb→le, ltb→lt}
 use lib.Ieee.Fits.{and-l, and-r}
-use Rattle.font.specs.Places.{Part}
+use Rattle.font.specs.declared.paint.Rows.{Rows}
+use Rattle.font.specs.declared.paint.Spot.{Spot}
+use Rattle.font.specs.Places.{Lent, Reachable}
 use Rattle.font.specs.Stroke.{origin}
 use Rattle.font_c.specs.Exported.{near, admitted}
 
@@ -14,24 +16,27 @@ unfolding near
 near-bounds x t =
     (leb→le _ _ (and-l (leb (origin / 2) x) (ltb x (2 * origin)) t), ltb→lt _ _ (and-r (leb (origin / 2) x) (ltb x (2 * origin)) t))
 
-pub part-of : (n width rows first x y : ℕ) → admitted n width rows first x y ≡ true → Part n width rows first x y
+pub lent : (n : ℕ) (rows : Rows) (at : Spot) → admitted n (rows .width) (rows .count) (rows .first) (at .x) (at .base) ≡ true → Lent n rows × Reachable at
 unfolding admitted
-part-of n width rows first x y e =
-    let long = leb (rows * (4 * width)) n in
-    let t0 : T (admitted n width rows first x y) = subst (λ (b : Bool). T b) (sym e) tt in
-    let t1 = and-r (leb width 4096) (leb rows 4096 && (leb first 4096 && (near x && (near y && long)))) t0 in
-    let t2 = and-r (leb rows 4096) (leb first 4096 && (near x && (near y && long))) t1 in
+lent n rows at e =
+    let size = rows .width in
+    let count = rows .count in
+    let first = rows .first in
+    let x = at .x in
+    let y = at .base in
+    let long = leb (count * (4 * size)) n in
+    let t0 : T (admitted n size count first x y) = subst (λ (b : Bool). T b) (sym e) tt in
+    let t1 = and-r (leb size 4096) (leb count 4096 && (leb first 4096 && (near x && (near y && long)))) t0 in
+    let t2 = and-r (leb count 4096) (leb first 4096 && (near x && (near y && long))) t1 in
     let t3 = and-r (leb first 4096) (near x && (near y && long)) t2 in
     let t4 = and-r (near x) (near y && long) t3 in
     let bx = near-bounds x (and-l (near x) (near y && long) t3) in
-    let by = near-bounds y (and-l (near y) long t4) in
-    record {
-      narrow = leb→le _ _ (and-l (leb width 4096) (leb rows 4096 && (leb first 4096 && (near x && (near y && long)))) t0);
-      short = leb→le _ _ (and-l (leb rows 4096) (leb first 4096 && (near x && (near y && long))) t1);
-      high = leb→le _ _ (and-l (leb first 4096) (near x && (near y && long)) t2);
-      long = leb→le _ _ (and-r (near y) long t4);
-      x-least = omega arith;
-      x-most = bx .1;
-      y-least = omega arith;
-      y-most = by .1;
-    }
+    let by = near-bounds y (and-l (near y) long t4) in (
+      record {
+        narrow = leb→le _ _ (and-l (leb size 4096) (leb count 4096 && (leb first 4096 && (near x && (near y && long)))) t0);
+        short = leb→le _ _ (and-l (leb count 4096) (leb first 4096 && (near x && (near y && long))) t1);
+        high = leb→le _ _ (and-l (leb first 4096) (near x && (near y && long)) t2);
+        long = leb→le _ _ (and-r (near y) long t4);
+      },
+      record { x-least = omega arith; x-most = bx .1; base-least = omega arith; base-most = by .1 },
+    )

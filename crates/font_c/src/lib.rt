@@ -5,6 +5,8 @@ ghost use Rattle.font.specs.Font.{tableOf, glyphRows};
 ghost use Rattle.font_c.specs.Exported.{near, admitted, Stroked};
 use font::BitmapFont;
 use font::Pen;
+use font::Rows;
+use font::Spot;
 
 // The table of the font that the bold mark picks.
 fn table(bold: bool) -> [u8; 4096]
@@ -33,25 +35,25 @@ fn is_near(x: usize) -> bool
     x < 2 * font::ORIGIN
 }
 
-fn is_admitted(n: usize, width: usize, rows: usize, first: usize, x: usize, y: usize) -> bool
-    ensures { λ r. ⌜ r ≡ admitted n width rows first x y ⌝ }
+fn is_admitted(n: usize, rows: Rows, at: Spot) -> bool
+    ensures { λ r. ⌜ r ≡ admitted n (rows .width) (rows .count) (rows .first) (at .x) (at .base) ⌝ }
 {
-    if 4096 < width {
+    if 4096 < rows.width {
         return false;
     }
-    if 4096 < rows {
+    if 4096 < rows.count {
         return false;
     }
-    if 4096 < first {
+    if 4096 < rows.first {
         return false;
     }
-    if !is_near(x) {
+    if !is_near(at.x) {
         return false;
     }
-    if !is_near(y) {
+    if !is_near(at.base) {
         return false;
     }
-    rows * (4 * width) <= n
+    rows.count * (4 * rows.width) <= n
 }
 
 // Blends a glyph into a part of a picture: `rows` rows of `width` pixels from the picture's row
@@ -72,17 +74,21 @@ pub extern "C" fn font_stroke(
 ) -> bool
     ensures { λ r. ⌜ Stroked width rows first code bold italic color x y (now (part .entry)) (now (part .exit)) r ⌝ }
 {
-    let w = width as usize;
-    let n = rows as usize;
-    let from = first as usize;
-    let column = x as usize;
-    let base = y as usize;
-    if !is_admitted(part.len(), w, n, from, column, base) {
+    let lent = Rows {
+        width: width as usize,
+        count: rows as usize,
+        first: first as usize,
+    };
+    let at = Spot {
+        x: x as usize,
+        base: y as usize,
+    };
+    if !is_admitted(part.len(), lent, at) {
         return false;
     }
     let pen = Pen::new(font::color_bytes(color), bold, italic);
     let offsets = pen.row_offsets();
-    let glyph = font::glyph_rows(&table(bold), code);
-    font::draw_glyph_sheared(part, w, n, from, &glyph, &offsets, column, base, pen);
+    let glyph = font::glyph_rows(&table(pen.bold), code);
+    font::draw_glyph_sheared(part, lent, code, &glyph, &offsets, at, pen);
     true
 }

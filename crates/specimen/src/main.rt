@@ -6,18 +6,14 @@
 use font::BitmapFont;
 use libc::STDOUT_FILENO;
 
-fn wide(x: u8) -> u64 {
-    x as u64
-}
-
 // Writes a space and a glyph's rows; false where the output takes no more.
-fn print_rows(rows: &[u8; 16]) -> bool {
+fn print_rows(rows: [u8; 16]) -> bool {
     if !io::write_all(STDOUT_FILENO, b" ") {
         return false;
     }
     let mut r = 0;
     while r < 16 {
-        if !io::print_hex(STDOUT_FILENO, wide(rows[r]), 2) {
+        if !io::print_hex(STDOUT_FILENO, rows[r] as u64, 2) {
             return false;
         }
         r += 1;
@@ -29,10 +25,10 @@ fn print_glyph(regular: &[u8; 4096], bold: &[u8; 4096], code: u32) -> bool {
     if !io::print_hex(STDOUT_FILENO, code as u64, 4) {
         return false;
     }
-    if !print_rows(&font::glyph_rows(regular, code)) {
+    if !print_rows(font::glyph_rows(regular, code)) {
         return false;
     }
-    if !print_rows(&font::glyph_rows(bold, code)) {
+    if !print_rows(font::glyph_rows(bold, code)) {
         return false;
     }
     io::write_all(STDOUT_FILENO, b"\n")

@@ -1,11 +1,18 @@
 -- `font_stroke` meets its contract.
-use mathlib.Core.Path.{_≡_, _∙_, sym}
+use mathlib.Core.Path.{_≡_, _∙_, sym, ap}
 use mathlib.Core.Bool.{true}
+use mathlib.Core.List.{List}
+use Prim.Native.Nat.{ℕ, _*_}
 use lib.ListN.{length}
 use borrow.Author.Tests.{not-true, not-false}
+use Rattle.font.specs.declared.paint.Spot.{Spot}
+use Rattle.font.specs.Font.{tableOf, glyphRows}
+use Rattle.font.specs.Slant.{rowOffsets}
+use Rattle.font.specs.Stroke.{strokeRow, eachRow}
+use Rattle.font.specs.Shear.{Shear, penRow}
 use Rattle.font.proofs.Rounding.{leans-back, shear-of}
 use Rattle.font_c.specs.Exported.{admitted, stroked}
-use Rattle.font_c.proofs.Admitted.{part-of}
+use Rattle.font_c.proofs.Admitted.{lent}
 use borrow.Author.Needs.{needs}
 use Rattle.font_c.proofs.font_stroke.Statement.{statement}
 use Rattle.font_c.proofs.font_stroke.Tie as tie
@@ -30,8 +37,12 @@ color-bytes-requires c κs = search needs
 new-requires : tie.Need-new-requires
 new-requires c κs = search needs
 
+-- the pen's shear is one of a pen's
+shears : (c : tie.After-new) → Shear (c .new .result .shear)
+shears c = rw (c .new .ensures) (shear-of _)
+
 row-offsets-requires : tie.Need-row-offsets-requires
-row-offsets-requires c κs = rw (c .new .ensures) (shear-of _)
+row-offsets-requires c κs = shears c
 
 table-requires : tie.Need-table-requires
 table-requires c κs = search needs
@@ -40,7 +51,22 @@ glyph-rows-requires : tie.Need-glyph-rows-requires
 glyph-rows-requires c κs = search needs
 
 draw-glyph-sheared-requires : tie.Need-draw-glyph-sheared-requires
-draw-glyph-sheared-requires c κs = part-of _ _ _ _ _ _ (admits (c .before .before .before .before .before .before .before .before .before))
+draw-glyph-sheared-requires c κs =
+    let letter = c .before .before .before in
+    let after-table = letter .before .before in
+    let after-row-offsets = after-table .before in
+    let after-new = after-row-offsets .before in
+    let else1 = after-new .before .before in
+    let code = else1 .before .before .before .args .code in
+    let placed = lent _ _ _ (admits else1) in (
+      placed .0,
+      placed .1,
+      record {
+        shear = shears after-new;
+        glyph-is = letter .glyph-rows .ensures ∙ ap (λ (t : List ℕ). glyphRows t code) (after-table .table .ensures);
+        offsets-are = after-row-offsets .row-offsets .ensures;
+      },
+    )
 
 same-length : tie.Need-same-length
 same-length c = search needs
@@ -48,21 +74,21 @@ same-length c = search needs
 returns-2 : tie.Need-returns-2
 unfolding stroked
 returns-2 c =
-    let letter = c .before .before .before .before .before .before in
-    let style = letter .before .before .before in
-    let yes = admits (style .before .before .before) in
+    let drawn = c .before .before in
+    let after-new = drawn .before .before .before .before .before .before .before .before in
+    let else1 = after-new .before .before in
+    let a = else1 .before .before .before .args in
+    let yes = admits else1 in
+    let k = after-new .before .color-bytes .ensures in
+    let at : Spot = record { x = a .x; base = a .y } in
     record {
       answers = sym yes;
       leaves =
           simp yes
-          (simp (
-            letter .glyph-rows .ensures,
-            letter .before .before .table .ensures,
-            style .row-offsets .ensures,
-            style .before .new .ensures,
-            style .before .before .color-bytes .ensures,
-            leans-back,
-          ) at (c .before .before .draw-glyph-sheared .ensures));
+          (drawn .draw-glyph-sheared .ensures
+          ∙ (λ i. eachRow (penRow (a .code) (after-new .new .ensures i) at) (4 * a .width) (a .rows) (a .first) (a .part .now))
+          ∙ λ i. eachRow (strokeRow (glyphRows (tableOf (a .bold)) (a .code)) (rowOffsets (leans-back (a .italic) i)) (k i) (a .x) (a .y)) (4 * a .width) (a .rows) (a .first)
+          (a .part .now));
     }
 
 pub font-stroke-spec : {M : Type 1} → statement M

@@ -22,11 +22,11 @@ returns c = search needs
 loop-holds : tie.Need-loop-holds Inv-loop μ-loop
 loop-holds c = search needs
 
-element-copy-out-wide : tie.Need-element-copy-out-wide Inv-loop μ-loop
-element-copy-out-wide c = search needs
+array-read-print-hex : tie.Need-array-read-print-hex Inv-loop μ-loop
+array-read-print-hex c = search needs
 
-wide-requires : tie.Need-wide-requires Inv-loop μ-loop
-wide-requires c κs = search needs
+cast-print-hex : tie.Need-cast-print-hex Inv-loop μ-loop
+cast-print-hex c = search needs
 
 print-hex-requires : tie.Need-print-hex-requires Inv-loop μ-loop
 print-hex-requires c κs = search needs
@@ -56,8 +56,8 @@ print-rows-spec =
     write-all-requires
     returns
     loop-holds
-    element-copy-out-wide
-    wide-requires
+    array-read-print-hex
+    cast-print-hex
     print-hex-requires
     returns-2
     add-r

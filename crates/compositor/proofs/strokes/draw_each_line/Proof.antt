@@ -3,21 +3,21 @@ use Prim.Native.Nat.{ℕ, _+_, _-_, _≤_}
 use native.Mathlib.Omega.{arith}
 use lib.ListN.{length}
 use Rattle.compositor.specs.Read.{lettersFrom, strokesAt}
-use Rattle.compositor.specs.Painting.{Lent}
+use Rattle.font.specs.Places.{Lent}
 use Rattle.compositor.proofs.Painting.{Still, begin, turn, done}
 use Rattle.compositor.proofs.Reading.{linesLeft, lines-begin, lines-turn, lines-end, letters-turn, fewer}
 use Rattle.compositor.proofs.strokes.draw_each_line.Statement.{statement}
 use Rattle.compositor.proofs.strokes.draw_each_line.Tie as tie
 
 abbrev Inv-loop : tie.InvT-loop
-Inv-loop part₀ rows regular bold upright slanted ws s lines left₀ first₀ i₀ part left first i =
+Inv-loop part₀ rows regular bold slanted ws s lines left₀ first₀ i₀ part left first i =
     (i ≤ lines)
     × (first + lettersFrom ws i (lines - i) ≡ lettersFrom ws 0 lines)
     × (length part ≡ length part₀)
     × Still rows (strokesAt s ws 0 0 lines) left₀ part₀ (linesLeft s ws lines first i) left part
 
 abbrev μ-loop : tie.MeasureT-loop
-μ-loop part₀ rows regular bold upright slanted ws s lines left₀ first₀ i₀ part left first i = lines - i
+μ-loop part₀ rows regular bold slanted ws s lines left₀ first₀ i₀ part left first i = lines - i
 
 loop-holds : tie.Need-loop-holds Inv-loop μ-loop
 loop-holds c =

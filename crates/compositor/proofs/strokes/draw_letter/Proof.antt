@@ -1,12 +1,17 @@
-use mathlib.Core.Path.{_∙_, refl, sym, ap, subst}
+use mathlib.Core.Path.{_≡_, _∙_, sym, ap, subst}
+use mathlib.Core.Bool.{cond}
+use mathlib.Core.List.{List}
 use Prim.Native.Nat.{ℕ}
 use native.Mathlib.Omega.{arith}
 use Rattle.font.specs.declared.Pen.{Pen}
+use Rattle.font.specs.Font.{glyphRows}
+use Rattle.font.specs.Shear.{penOf, Inked}
+use Rattle.font.specs.Places.{Lent}
+use Rattle.tape.specs.declared.Style.{Style}
 use Rattle.tape.specs.Stored.{letterAt}
-use Rattle.compositor.specs.Strokes.{glyphStrokes}
-use Rattle.compositor.specs.Painting.{Lent}
+use Rattle.compositor.specs.Strokes.{colorOf}
 use Rattle.compositor.proofs.Painting.{missed, then, same}
-use Rattle.compositor.proofs.Reading.{glyph-is, offsets-are, letter-strokes}
+use Rattle.compositor.proofs.Reading.{inked, letter-strokes}
 use Rattle.compositor.proofs.Total.{letter-length}
 use borrow.Author.Needs.{needs}
 use Rattle.compositor.proofs.strokes.draw_letter.Statement.{statement}
@@ -28,7 +33,7 @@ returns c =
     let a = start .args in
     let l = letterAt (a .ws .now) (a .number) in
     rw (c .past .ensures)
-    (missed (a .rows) _ _ _ (after-letter-strokes .letter-strokes .ensures .0 ∙ sym (letter-length (a .s) l (a .x) (a .y)))
+    (missed (a .rows) _ _ _ (after-letter-strokes .letter-strokes .ensures .0 ∙ sym (letter-length (a .s) l (a .at .x) (a .at .base)))
     (sym (c .before .before .misses .ensures) ∙ c .before .if1 .taken))
 
 code-requires : tie.Need-code-requires
@@ -37,70 +42,82 @@ code-requires c κs = search needs
 style-requires : tie.Need-style-requires
 style-requires c κs = search needs
 
-glyph-of-requires : tie.Need-glyph-of-requires
-glyph-of-requires c κs = search needs
-
-offsets-of-requires : tie.Need-offsets-of-requires
-offsets-of-requires c κs = search needs
-
 new-requires : tie.Need-new-requires
 new-requires c κs = search needs
 
 new-requires-2 : tie.Need-new-requires-2
 new-requires-2 c κs = search needs
 
+glyph-of-requires : tie.Need-glyph-of-requires
+glyph-of-requires c κs = search needs
+
+offsets-of-requires : tie.Need-offsets-of-requires
+offsets-of-requires c κs = search needs
+
+-- the glyph and the offsets are those of any pen of the letter's style
+inks : (c : tie.After-offsets-of)
+    → let after-style = c .before .before .before .before .before in
+    let style = after-style .style .result in
+    (k : List ℕ) (pen : Pen) → pen ≡ penOf k (style .bold) (style .italic)
+    → Inked (after-style .before .code .result) pen (c .before .glyph-of .result) (c .offsets-of .result)
+inks c k pen e =
+    let after-new2 = c .before .before in
+    let after-style = after-new2 .before .before .before in
+    let after-code = after-style .before in
+    let start = after-code .before .before .before .before .before .before in
+    let a = start .args in
+    let code = after-code .code .result in
+    let style = after-style .style .result in
+    inked (start .pre .1) code k (style .bold) (style .italic) e
+    (c .before .glyph-of .ensures ∙ ap (λ (p : Pen). glyphRows (cond (p .bold) (a .bold .now) (a .regular .now)) code) (after-new2 .new2 .ensures))
+    (c .offsets-of .ensures)
+
 outline-requires : tie.Need-outline-requires
 outline-requires c κs = search needs
 
 draw-outline-requires : tie.Need-draw-outline-requires
 draw-outline-requires c κs =
-    let start = c .before .before .before .before .before .before .before .before .before .before .before .before .before .before .before .before in
-    (start .pre .0, start .pre .3, c .outline .ensures .1)
+    let after-outline = c .before .before .before in
+    let after-offsets-of = after-outline .before in
+    let after-new = after-offsets-of .before .before .before in
+    let start = after-new .before .before .before .before .before .before .before .before .before in
+    (start .pre .0, start .pre .3, inks after-offsets-of _ _ (after-new .new .ensures), after-outline .outline .ensures .1)
 
 draw-stroke-requires : tie.Need-draw-stroke-requires
 draw-stroke-requires c κs =
     let after-draw-outline = c .before .before .before .before .before in
-    let start = after-draw-outline .before .before .before .before .before .before .before .before .before .before .before .before .before .before .before .before .before in
+    let after-offsets-of = after-draw-outline .before .before .before .before .before in
+    let after-new2 = after-offsets-of .before .before in
+    let start = after-new2 .before .before .before .before .before .before .before .before .before .before in
     let near = start .pre .3 in
     let left = near .x-least in
     let right = near .x-most in
     let top = near .base-least in
     let bottom = near .base-most in
-    let fits = subst (λ (n : ℕ). Lent n (start .args .rows)) (sym (after-draw-outline .draw-outline .kept .0)) (start .pre .0) in
-    (fits, omega arith, omega arith, omega arith, omega arith)
+    let fits = subst (λ (n : ℕ). Lent n (start .args .rows)) (sym (after-draw-outline .draw-outline .kept .0)) (start .pre .0) in (
+      fits,
+      record { x-least = omega arith; x-most = omega arith; base-least = omega arith; base-most = omega arith },
+      inks after-offsets-of _ _ (after-new2 .new2 .ensures),
+    )
 
 same-length : tie.Need-same-length
 same-length c = search needs
 
 returns-2 : tie.Need-returns-2
-unfolding glyphStrokes
 returns-2 c =
     let after-draw-outline = c .before .before .before .before .before .before .before .before in
-    let after-outline = after-draw-outline .before in
-    let after-new2 = after-outline .before .before .before .before in
+    let after-outline = after-draw-outline .before .before .before .before in
+    let after-new2 = after-outline .before .before .before in
     let after-new = after-new2 .before in
-    let after-offsets-of = after-new .before .before in
-    let after-glyph-of = after-offsets-of .before in
-    let after-style = after-glyph-of .before in
+    let after-style = after-new .before .before in
     let after-code = after-style .before in
     let start = after-code .before .before .before .before .before .before in
-    let code = after-code .code in
-    let style = after-style .style in
-    let glyph = after-glyph-of .glyph-of in
-    let offsets = after-offsets-of .offsets-of in
-    let around = after-new .new in
-    let own = after-new2 .new2 in
-    let outline = after-outline .outline in
-    let a = after-draw-outline .draw-outline in
-    let b = c .before .before .draw-stroke in
-    let l = letterAt (start .args .ws .now) (start .args .number) in
-    let whole = letter-strokes (start .args .s) l (start .args .x) (start .args .y)
-    (glyph .ensures ∙ rw (style .ensures, code .ensures) (glyph-is (start .pre .1) (l .style .bold) (l .code)))
-    (offsets .ensures ∙ rw (style .ensures) (offsets-are (start .pre .1) (l .style .italic)))
-    (ap (λ (p : Pen). p .color) (around .ensures))
-    (ap (λ (p : Pen). p .color) (own .ensures) ∙ rw (style .ensures) refl)
-    (outline .ensures .0) in
-    same (start .args .rows) whole (then (start .args .rows) _ _ (start .pre .0) (a .ensures) (b .ensures))
+    let a = start .args in
+    let style = after-style .style .ensures in
+    let whole = letter-strokes (a .s) (letterAt (a .ws .now) (a .number)) (a .at) (after-code .code .ensures) (after-outline .outline .ensures .0)
+    (after-new .new .ensures ∙ ap (λ (t : Style). penOf (a .s .«outline_color») (t .bold) (t .italic)) style)
+    (after-new2 .new2 .ensures ∙ ap (λ (t : Style). penOf (colorOf t) (t .bold) (t .italic)) style) in
+    same (a .rows) whole (then (a .rows) _ _ (start .pre .0) (after-draw-outline .draw-outline .ensures) (c .before .before .draw-stroke .ensures))
 
 pub draw-letter-spec : {M : Type 1} → statement M
 draw-letter-spec =
@@ -112,10 +129,10 @@ draw-letter-spec =
     returns
     code-requires
     style-requires
-    glyph-of-requires
-    offsets-of-requires
     new-requires
     new-requires-2
+    glyph-of-requires
+    offsets-of-requires
     outline-requires
     draw-outline-requires
     draw-stroke-requires

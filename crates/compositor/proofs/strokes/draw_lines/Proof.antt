@@ -66,17 +66,9 @@ new-requires c κs = search needs
 row-offsets-requires : tie.Need-row-offsets-requires
 row-offsets-requires c κs = rw (c .new .ensures) (shear-of _)
 
-new-requires-2 : tie.Need-new-requires-2
-new-requires-2 c κs = search needs
-
-row-offsets-requires-2 : tie.Need-row-offsets-requires-2
-row-offsets-requires-2 c κs = rw (c .new2 .ensures) (shear-of _)
-
 draw-each-line-requires : tie.Need-draw-each-line-requires
 draw-each-line-requires c κs =
-    let after-row-offsets2 = c .before .before .before .before .before in
-    let after-new2 = after-row-offsets2 .before in
-    let after-row-offsets = after-new2 .before in
+    let after-row-offsets = c .before .before .before .before in
     let after-new = after-row-offsets .before in
     let after-table2 = after-new .before in
     let after-default-bold = after-table2 .before in
@@ -88,8 +80,7 @@ draw-each-line-requires c κs =
       record {
         regular-is = after-table .table .ensures ∙ ap (λ (f : BitmapFont). tableOf (f .bold)) (after-default-regular .default-regular .ensures);
         bold-is = after-table2 .table2 .ensures ∙ ap (λ (f : BitmapFont). tableOf (f .bold)) (after-default-bold .default-bold .ensures);
-        upright-is = after-row-offsets .row-offsets .ensures ∙ rw (after-new .new .ensures, leans-back false);
-        slanted-is = after-row-offsets2 .row-offsets2 .ensures ∙ rw (after-new2 .new2 .ensures, leans-back true);
+        slanted-is = after-row-offsets .row-offsets .ensures ∙ rw (after-new .new .ensures, leans-back true);
       },
       s .pre .1,
       s .pre .2,
@@ -119,8 +110,6 @@ draw-lines-spec =
     table-requires-2
     new-requires
     row-offsets-requires
-    new-requires-2
-    row-offsets-requires-2
     draw-each-line-requires
     same-length
     returns-3)

@@ -16,30 +16,27 @@ returns c =
     let off = one-off (a .o) (a .dy) (a .dx) (sym (c .before .is-on-ring .ensures) ∙ not-true _ (c .if1 .taken)) in
     rw off (nothing (a .rows) (a .window) _)
 
-add-draw-stroke : tie.Need-add-draw-stroke
-add-draw-stroke c = let near = c .before .before .before .before .pre .1 in let most = near .x-most in omega arith
+add-x : tie.Need-add-x
+add-x c = let most = c .before .before .before .before .pre .1 .x-most in omega arith
 
-sub-draw-stroke : tie.Need-sub-draw-stroke
-sub-draw-stroke c = let near = c .before .before .before .before .pre .1 in let least = near .x-least in omega arith
+sub-x : tie.Need-sub-x
+sub-x c = let least = c .before .before .before .before .pre .1 .x-least in omega arith
 
-add-draw-stroke-2 : tie.Need-add-draw-stroke-2
-add-draw-stroke-2 c = let near = c .before .before .before .before .pre .1 in let most = near .base-most in omega arith
+add-base : tie.Need-add-base
+add-base c = let most = c .before .before .before .before .before .pre .1 .base-most in omega arith
 
-sub-draw-stroke-2 : tie.Need-sub-draw-stroke-2
-sub-draw-stroke-2 c =
-    let near = c .before .before .before .before .pre .1 in
-    let least = near .base-least in
-    omega arith
+sub-base : tie.Need-sub-base
+sub-base c = let least = c .before .before .before .before .before .pre .1 .base-least in omega arith
 
 draw-stroke-requires : tie.Need-draw-stroke-requires
 draw-stroke-requires c κs =
-    let e = c .before .before .before .before .pre in
+    let e = c .before .before .before .before .before .before .pre in
     let near = e .1 in
     let left = near .x-least in
     let right = near .x-most in
     let top = near .base-least in
     let bottom = near .base-most in
-    (e .0, omega arith, omega arith, omega arith, omega arith)
+    (e .0, record { x-least = omega arith; x-most = omega arith; base-least = omega arith; base-most = omega arith }, e .2)
 
 same-length : tie.Need-same-length
 same-length c = search needs
@@ -47,7 +44,7 @@ same-length c = search needs
 returns-2 : tie.Need-returns-2
 returns-2 c =
     let after-draw-stroke = c .before .before in
-    let branch1 = after-draw-stroke .before .before in
+    let branch1 = after-draw-stroke .before .before .before .before in
     let after-is-on-ring = branch1 .before in
     let start = after-is-on-ring .before .before in
     let a = start .args in
@@ -60,10 +57,10 @@ draw-offset-spec =
     (tie.spec
     is-on-ring-requires
     returns
-    add-draw-stroke
-    sub-draw-stroke
-    add-draw-stroke-2
-    sub-draw-stroke-2
+    add-x
+    sub-x
+    add-base
+    sub-base
     draw-stroke-requires
     same-length
     returns-2)

@@ -3,32 +3,33 @@ use Prim.Native.Nat.{ℕ, _+_, _-_, _*_, _≤_}
 use native.Mathlib.Omega.{arith}
 use lib.ListN.{length}
 use Rattle.compositor.specs.Outline.{ring}
-use Rattle.compositor.specs.Painting.{Lent}
+use Rattle.font.specs.Places.{Lent}
+use Rattle.compositor.specs.Painting.{strokesOf}
 use Rattle.compositor.proofs.Painting.{nothing, Still, begin, turn, done}
-use Rattle.compositor.proofs.Outlines.{strokes, rowsLeft, ring-none, ring-some, rows-turn, rows-end}
+use Rattle.compositor.proofs.Outlines.{rowsLeft, ring-none, ring-some, rows-turn, rows-end}
 use Rattle.compositor.proofs.strokes.draw_outline.Statement.{statement}
 use Rattle.compositor.proofs.strokes.draw_outline.Tie as tie
 
 abbrev Inv-loop : tie.InvT-loop
-Inv-loop part₀ rows glyph offsets x y pen o left₀ dy₀ part left dy =
+Inv-loop part₀ rows code glyph offsets at pen o left₀ dy₀ part left dy =
     (dy ≤ 2 * o + 1)
     × (length part ≡ length part₀)
-    × Still rows (strokes glyph offsets (pen .color) o x y (ring o)) left₀ part₀ (rowsLeft glyph offsets (pen .color) o x y dy) left part
+    × Still rows (strokesOf code pen o at (ring o)) left₀ part₀ (rowsLeft code pen o at dy) left part
 
 abbrev μ-loop : tie.MeasureT-loop
-μ-loop part₀ rows glyph offsets x y pen o left₀ dy₀ part left dy = 2 * o + 1 - dy
+μ-loop part₀ rows code glyph offsets at pen o left₀ dy₀ part left dy = 2 * o + 1 - dy
 
 returns : tie.Need-returns Inv-loop μ-loop
-returns c = rw (ring-none _ _ _ _ _ _ (c .if1 .taken)) (nothing _ _ _)
+returns c = rw (ring-none _ _ _ _ (c .if1 .taken)) (nothing _ _ _)
 
 loop-holds : tie.Need-loop-holds Inv-loop μ-loop
-loop-holds c = (omega arith, refl, begin _ _ _ _ (ring-some _ _ _ _ _ _ (omega arith)))
+loop-holds c = let a = c .before .before .args in (omega arith, refl, begin _ _ _ _ (ring-some (a .code) (a .pen) (a .o) (a .at) (omega arith)))
 
 mul-loop : tie.Need-mul-loop Inv-loop μ-loop
-mul-loop c = let h = c .before .before .before .pre .2 in omega arith
+mul-loop c = let h = c .before .before .before .pre .3 in omega arith
 
 add-loop : tie.Need-add-loop Inv-loop μ-loop
-add-loop c = let h = c .before .before .before .pre .2 in omega arith
+add-loop c = let h = c .before .before .before .pre .3 in omega arith
 
 draw-ring-row-requires : tie.Need-draw-ring-row-requires Inv-loop μ-loop
 draw-ring-row-requires c κs =
@@ -37,13 +38,13 @@ draw-ring-row-requires c κs =
     let e = start .pre in
     let l = at-loop .loop in
     let h = c .before .loop-test .taken in
-    (subst (λ (n : ℕ). Lent n (start .args .rows)) (sym (l .inv .1)) (e .0), e .1, e .2, omega arith)
+    (subst (λ (n : ℕ). Lent n (start .args .rows)) (sym (l .inv .1)) (e .0), e .1, e .2, e .3, omega arith)
 
 add-dy : tie.Need-add-dy Inv-loop μ-loop
 add-dy c =
     let at-loop = c .before .before .before .before .before in
     let start = at-loop .before .before .before in
-    let l = at-loop .loop in let h = l .inv .0 in let o = start .pre .2 in omega arith
+    let l = at-loop .loop in let h = l .inv .0 in let o = start .pre .3 in omega arith
 
 loop-less : tie.Need-loop-less Inv-loop μ-loop
 loop-less c = let h = c .before .before .before .before .loop-test .taken in omega arith
@@ -54,20 +55,25 @@ loop-again c =
     let in-loop = after-draw-ring-row .before .before in
     let at-loop = in-loop .before in
     let s = at-loop .before .before .before in
+    let a = s .args in
     let l = at-loop .loop in
     let h = in-loop .loop-test .taken in
     let d = after-draw-ring-row .draw-ring-row in
     let fits : Lent (length (l .part)) (s .args .rows) = subst (λ (n : ℕ). Lent n (s .args .rows)) (sym (l .inv .1)) (s .pre .0) in (
       omega arith,
       d .kept .0 ∙ l .inv .1,
-      turn _ _ _ _ _ _ (rows-turn _ _ _ _ _ _ (l .dy) h) fits (d .ensures) (l .inv .2),
+      turn _ _ _ _ _ _ (rows-turn (a .code) (a .pen) (a .o) (a .at) (l .dy) h) fits (d .ensures) (l .inv .2),
     )
 
 same-length : tie.Need-same-length Inv-loop μ-loop
 same-length c = c .before .loop .inv .1
 
 returns-2 : tie.Need-returns-2 Inv-loop μ-loop
-returns-2 c = let l = c .before .loop in done _ _ _ _ (rows-end _ _ _ _ _ _ (l .dy) (c .loop-test .left)) (l .inv .2)
+returns-2 c =
+    let at-loop = c .before in
+    let a = at-loop .before .before .before .args in
+    let l = at-loop .loop in
+    done _ _ _ _ (rows-end (a .code) (a .pen) (a .o) (a .at) (l .dy) (c .loop-test .left)) (l .inv .2)
 
 pub draw-outline-spec : {M : Type 1} → statement M
 draw-outline-spec =

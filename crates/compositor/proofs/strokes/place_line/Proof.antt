@@ -19,13 +19,13 @@ use Rattle.compositor.proofs.strokes.place_line.Tie as tie
 -- the line's strokes are as many as its letters have
 strokes-are : (c : tie.After-letter-strokes) →
     let a = c .before .before .before .args in
-    a .letters * c .letter-strokes .result
-    ≡ length (lineStrokes (a .s) (lineStart (a .s) (lineWidth (columnsOn (a .ws .now) (a .line)))) (a .y) (lettersAt (a .ws .now) (a .first) (a .letters)))
+    a .span .letters * c .letter-strokes .result
+    ≡ length (lineStrokes (a .s) (lineStart (a .s) (lineWidth (columnsOn (a .ws .now) (a .line)))) (a .y) (lettersAt (a .ws .now) (a .span .first) (a .span .letters)))
 strokes-are c =
     let start = c .before .before .before in
     let a = start .args in
-    let ls = lettersAt (a .ws .now) (a .first) (a .letters) in
-    ap₂ (λ (n m : ℕ). n * m) (sym (letters-length (a .ws .now) (a .first) (a .letters))) (c .letter-strokes .ensures .0)
+    let ls = lettersAt (a .ws .now) (a .span .first) (a .span .letters) in
+    ap₂ (λ (n m : ℕ). n * m) (sym (letters-length (a .ws .now) (a .span .first) (a .span .letters))) (c .letter-strokes .ensures .0)
     ∙ sym (line-length (a .s) _ (a .y) ls)
 
 letter-strokes-requires : tie.Need-letter-strokes-requires
@@ -33,10 +33,11 @@ letter-strokes-requires c κs = search needs
 
 mul-strokes : tie.Need-mul-strokes
 mul-strokes c =
-    let start = c .before .before .before in
-    let n = start .args .letters in
+    let after-letter-strokes = c .before in
+    let start = after-letter-strokes .before .before .before in
+    let n = start .args .span .letters in
     let few = start .pre .2 .few in
-    let each = ap (λ (m : ℕ). n * m) (c .letter-strokes .ensures .0) in
+    let each = ap (λ (m : ℕ). n * m) (after-letter-strokes .letter-strokes .ensures .0) in
     let small = total-small n (outlineOf (start .args .s)) (omega arith) (omega arith) in
     omega arith
 
@@ -52,7 +53,7 @@ past-requires c κs = search needs
 returns : tie.Need-returns
 returns c =
     let after-outline = c .before .before .before in
-    let after-letter-strokes = after-outline .before in
+    let after-letter-strokes = after-outline .before .before in
     let start = after-letter-strokes .before .before .before in
     let a = start .args in
     let outline = after-outline .outline .ensures in
@@ -68,7 +69,7 @@ past-requires-2 c κs = search needs
 
 returns-2 : tie.Need-returns-2
 returns-2 c =
-    let after-letter-strokes = c .before .before .before .before .before .before in
+    let after-letter-strokes = c .before .before .before .before .before .before .before in
     let start = after-letter-strokes .before .before .before in
     let a = start .args in
     rw (c .past2 .ensures) (missed (a .rows) _ _ _ (strokes-are after-letter-strokes) (sym (c .before .before .misses .ensures) ∙ c .before .if2 .taken))
@@ -81,7 +82,7 @@ line-start-requires c κs = search needs
 
 draw-line-requires : tie.Need-draw-line-requires
 draw-line-requires c κs =
-    let start = c .before .before .before .before .before .before .before .before .before .before .before in
+    let start = c .before .before .before .before .before .before .before .before .before .before .before .before in
     let x = c .before .line-start .ensures in
     let left = x .1 in
     let right = x .2 in

@@ -1,13 +1,18 @@
 -- `draw_glyph_sheared` meets its contract.
-use mathlib.Core.Path.{_≡_, sym}
+use mathlib.Core.Path.{_≡_, _∙_, sym}
 use Prim.Native.Nat.{_+_, _*_}
 use lib.ListN.{length}
-use Rattle.font.specs.Stroke.{strokeRow}
+use Rattle.font.specs.Stroke.{strokeRow, eachRow}
+use Rattle.font.specs.Shear.{penGlyph, penOffsets, penRow}
 use Rattle.font.proofs.Columns.{four-bytes}
 use Rattle.font.proofs.Rows.{rows-kept, stroke-clear}
 use borrow.Author.Needs.{needs}
 use Rattle.font.proofs.paint.draw_glyph_sheared.Statement.{statement}
 use Rattle.font.proofs.paint.draw_glyph_sheared.Tie as tie
+
+-- a color has four bytes
+four : (c : tie.Start) → length (c .args .pen .color) ≡ 4
+four c = search needs
 
 array-read-if1 : tie.Need-array-read-if1
 array-read-if1 c = search needs
@@ -16,8 +21,8 @@ returns : tie.Need-returns
 returns c =
     let a = c .before .before .before .args in
     sym
-    (rows-kept (strokeRow (a .glyph .now) (a .offsets .now) (a .pen .color) (a .x) (a .y)) (4 * a .width) (a .rows) (a .first) (a .part .now)
-    (λ j row h. stroke-clear (a .glyph .now) (a .offsets .now) (a .pen .color) (a .x) (a .y) (a .first + j) row (c .if1 .taken)))
+    (rows-kept (penRow (a .code) (a .pen) (a .at)) (4 * a .rows .width) (a .rows .count) (a .rows .first) (a .part .now)
+    (λ j row h. stroke-clear (penGlyph (a .code) (a .pen)) (penOffsets (a .pen)) (a .pen .color) (a .at .x) (a .at .base) (a .rows .first + j) row (c .if1 .taken)))
 
 array-read-draw-rows : tie.Need-array-read-draw-rows
 array-read-draw-rows c = search needs
@@ -39,9 +44,12 @@ same-length c = search needs
 
 returns-2 : tie.Need-returns-2
 returns-2 c =
-    let k = c .before .before .before .before .before .before .before .args .pen .color in
-    let four : length k ≡ 4 = search needs in
-    rw (← (four-bytes k four)) (c .before .before .draw-rows .ensures)
+    let start = c .before .before .before .before .before .before .before in
+    let a = start .args in
+    let inked = start .pre .2 in
+    rw (four-bytes (a .pen .color) (four start)) at (c .before .before .draw-rows .ensures)
+    ∙ λ i. eachRow (strokeRow (inked .glyph-is i) (inked .offsets-are i) (a .pen .color) (a .at .x) (a .at .base)) (4 * a .rows .width) (a .rows .count)
+    (a .rows .first) (a .part .now)
 
 pub draw-glyph-sheared-spec : {M : Type 1} → statement M
 draw-glyph-sheared-spec =

@@ -13,15 +13,15 @@ use Rattle.font.proofs.paint.draw_rows.Statement.{statement}
 use Rattle.font.proofs.paint.draw_rows.Tie as tie
 
 abbrev Inv-loop : tie.InvT-loop
-Inv-loop part₀ width rows first glyph offsets x y red green blue alpha size top start i₀ end part i =
-    (min rows (top - start) ≤ i)
-    × (i ≤ rows)
-    × (end ≡ min rows (top + 16 - start))
+Inv-loop part₀ rows glyph offsets at red green blue alpha size top i₀ end part i =
+    (min (rows .count) (top - (origin + rows .first)) ≤ i)
+    × (i ≤ rows .count)
+    × (end ≡ min (rows .count) (top + 16 - (origin + rows .first)))
     × (length part ≡ length part₀)
-    × Left glyph offsets (red ∷ green ∷ blue ∷ alpha ∷ []) x y size rows first part₀ i part
+    × Left glyph offsets (red ∷ green ∷ blue ∷ alpha ∷ []) (at .x) (at .base) size (rows .count) (rows .first) part₀ i part
 
 abbrev μ-loop : tie.MeasureT-loop
-μ-loop part₀ width rows first glyph offsets x y red green blue alpha size top start i₀ end part i = end - i
+μ-loop part₀ rows glyph offsets at red green blue alpha size top i₀ end part i = end - i
 
 mul-size : tie.Need-mul-size Inv-loop μ-loop
 mul-size c = search needs
@@ -31,9 +31,6 @@ cast-top c = search needs
 
 sub-top : tie.Need-sub-top Inv-loop μ-loop
 sub-top c = search needs
-
-add-start : tie.Need-add-start Inv-loop μ-loop
-add-start c = search needs
 
 rows-above-requires : tie.Need-rows-above-requires Inv-loop μ-loop
 rows-above-requires c κs = search needs
@@ -49,30 +46,30 @@ rows-above-requires-2 c κs = search needs
 
 loop-holds : tie.Need-loop-holds Inv-loop μ-loop
 loop-holds c =
-    let a = c .before .before .before .args in
+    let a = c .before .before .before .before .before .args in
     let i = c .before .rows-above in (
       omega arith,
       omega arith,
       c .rows-above2 .ensures,
       refl,
-      left-start (a .glyph .now) (a .offsets .now) _ (a .x) (a .y) (4 * a .width) (a .rows) (a .first) (a .part .now) (i .result)
+      left-start (a .glyph .now) (a .offsets .now) _ (a .at .x) (a .at .base) (4 * a .rows .width) (a .rows .count) (a .rows .first) (a .part .now) (i .result)
           (omega arith) (omega arith),
     )
 
 -- the glyph has a row on row i
 at : (c : tie.In-loop Inv-loop μ-loop)
-    → let a = c .before .before .before .before .before .args in
+    → let a = c .before .before .before .before .before .before .before .args in
     let i = c .before .loop .i in
-    Falls (a .rows) (origin + a .first) (a .y - 12) i (origin + a .first + i - (a .y - 12))
+    Falls (a .rows .count) (origin + a .rows .first) (a .at .base - 12) i (origin + a .rows .first + i - (a .at .base - 12))
 at c = falls _ _ _ _ _ (c .before .loop .inv .0) (c .loop-test .taken) (c .before .loop .inv .2)
 
 -- and row i lies in the part
 fits : (c : tie.In-loop Inv-loop μ-loop)
-    → let a = c .before .before .before .before .before .args in
-    c .before .loop .i * (4 * a .width) + 4 * a .width ≤ length (c .before .loop .part)
+    → let a = c .before .before .before .before .before .before .before .args in
+    c .before .loop .i * (4 * a .rows .width) + 4 * a .rows .width ≤ length (c .before .loop .part)
 fits c =
-    let start = c .before .before .before .before .before in
-    row-in _ _ (4 * start .args .width) (at c .within) (rw (c .before .loop .inv .3) (start .pre .long))
+    let start = c .before .before .before .before .before .before .before in
+    row-in _ _ (4 * start .args .rows .width) (at c .within) (rw (c .before .loop .inv .3) (start .pre .0 .long))
 
 mul-a : tie.Need-mul-a Inv-loop μ-loop
 mul-a c = omega (arith, fits c)
@@ -83,8 +80,11 @@ add-e c = omega (arith, fits c)
 add-r : tie.Need-add-r Inv-loop μ-loop
 add-r c = search needs
 
+add-r-2 : tie.Need-add-r-2 Inv-loop μ-loop
+add-r-2 c = search needs
+
 sub-r : tie.Need-sub-r Inv-loop μ-loop
-sub-r c = at c .reaches
+sub-r c = at (c .before) .reaches
 
 sub-draw-row : tie.Need-sub-draw-row Inv-loop μ-loop
 sub-draw-row c = search needs
@@ -93,32 +93,41 @@ part-draw-row-start : tie.Need-part-draw-row-start Inv-loop μ-loop
 part-draw-row-start c = search needs
 
 part-draw-row-end : tie.Need-part-draw-row-end Inv-loop μ-loop
-part-draw-row-end c = fits c
+part-draw-row-end c = fits (c .before)
+
+element-copy-out-draw-row : tie.Need-element-copy-out-draw-row Inv-loop μ-loop
+element-copy-out-draw-row c = at (c .before .before) .row
+
+element-copy-out-draw-row-2 : tie.Need-element-copy-out-draw-row-2 Inv-loop μ-loop
+element-copy-out-draw-row-2 c = at (c .before .before .before) .row
 
 draw-row-requires : tie.Need-draw-row-requires Inv-loop μ-loop
 draw-row-requires c κs =
-    let start = c .before .before .before .before .before .before in
-    (at (c .before) .row, start .pre .x-least, start .pre .x-most)
+    let in-loop = c .before .before .before .before in
+    let start = in-loop .before .before .before .before .before .before .before in
+    (start .pre .1 .x-least, start .pre .1 .x-most)
 
 add-i : tie.Need-add-i Inv-loop μ-loop
 add-i c = search needs
 
 loop-less : tie.Need-loop-less Inv-loop μ-loop
-loop-less c = less (c .before .before .before .before .loop-test .taken)
+loop-less c =
+    let in-loop = c .before .before .before .before .before .before .before in
+    less (in-loop .loop-test .taken)
 
 loop-again : tie.Need-loop-again Inv-loop μ-loop
 loop-again c =
-    let turn = c .before .before .before .before in
-    let a = turn .before .before .before .before .before .args in
+    let turn = c .before .before .before .before .before .before .before in
+    let a = turn .before .before .before .before .before .before .before .args in
     let l = turn .before .loop in
-    let size = 4 * a .width in
+    let size = 4 * a .rows .width in
     let drawn = c .before .before .draw-row in
     let n = l .i * size + size - l .i * size in (
       le-trans (l .inv .0) (le-add-right (l .i) 1),
       at turn .next,
       l .inv .2,
       same-len-mid (l .i * size) n (l .part) (drawn .last .0) (drawn .kept .0) ∙ l .inv .3,
-      left-turn (a .glyph .now) (a .offsets .now) _ (a .x) (a .y) size (a .rows) (a .first) (a .part .now) (l .i) _ n (l .part) (drawn .last .0)
+      left-turn (a .glyph .now) (a .offsets .now) _ (a .at .x) (a .at .base) size (a .rows .count) (a .rows .first) (a .part .now) (l .i) _ n (l .part) (drawn .last .0)
           (at turn) (fits turn) (add-sub-cancel-left (l .i * size) size) (drawn .ensures) (l .inv .4),
     )
 
@@ -127,9 +136,9 @@ same-length c = search needs
 
 returns : tie.Need-returns Inv-loop μ-loop
 returns c =
-    let a = c .before .before .before .before .before .args in
+    let a = c .before .before .before .before .before .before .before .args in
     let l = c .before .loop in
-    left-end (a .glyph .now) (a .offsets .now) _ (a .x) (a .y) (4 * a .width) (a .rows) (a .first) (a .part .now) (l .i) (l .part)
+    left-end (a .glyph .now) (a .offsets .now) _ (a .at .x) (a .at .base) (4 * a .rows .width) (a .rows .count) (a .rows .first) (a .part .now) (l .i) (l .part)
     (omega arith) (l .inv .4)
 
 pub draw-rows-spec : {M : Type 1} → statement M
@@ -141,7 +150,6 @@ draw-rows-spec =
     mul-size
     cast-top
     sub-top
-    add-start
     rows-above-requires
     cast-rows-above
     add-rows-above
@@ -150,10 +158,13 @@ draw-rows-spec =
     mul-a
     add-e
     add-r
+    add-r-2
     sub-r
     sub-draw-row
     part-draw-row-start
     part-draw-row-end
+    element-copy-out-draw-row
+    element-copy-out-draw-row-2
     draw-row-requires
     add-i
     loop-less
