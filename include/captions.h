@@ -1,27 +1,25 @@
 /*
- * Bitmap captions: the four functions of libcaptions.a, for C99 and C++.
+ * Bitmap captions: the four functions of libcaptions.a, for C99 and C++11.
  *
  * A cue comes in as a tape of bytes. captions_wrap breaks it into lines and captions_draw draws it
  * whole; captions_open and captions_work draw it in stripes, a budget of strokes at a time.
  *
  * Every call is total: it takes any numbers, bytes and lengths, and returns. A length is that of
- * the buffer before it, in bytes; one of length 0 may be NULL. The buffers of one call must not
- * overlap. A record is aligned as a uint32_t is; the other buffers need no alignment. No call keeps
- * anything, so any number of threads may call, each with its own buffers.
+ * the buffer before it, in bytes; one of length 0 may be NULL, settings and a record may not. What
+ * one call is lent must not overlap. Settings and a record are aligned as a uint32_t is; buffers
+ * need no alignment. No call keeps anything, allocates or uses errno, so any number of threads may
+ * call, each with its own buffers. A call needs at most CAPTIONS_STACK_BYTES of stack.
+ *
+ * The platform. x86-64 Linux, with the System V calling convention. The numbers of settings and
+ * records are in the machine's byte order, little endian.
  *
  * Answers. An answer has two halves of 32 bits. The upper half is 0 and the lower is what the call
- * answers; or the upper is a refusal's number and the lower its place. See captions_refused and
- * captions_place.
+ * answers; or the upper is a refusal's number and the lower its place. See captions_refused,
+ * captions_answer and captions_place.
  *
- * The tape. At most CAPTIONS_TAPE_MAX bytes: commands, each with its operands, high byte first.
- * The outer list ends with the tape, every other list and a voice's name with a 00.
- *
- *     00  ends a list or a name            06  bold: a list follows
- *     01  an empty text                    07  italic: a list follows
- *     02  a letter, code point in 1 byte   08  color: red, green, blue, and then a list
- *     03  a letter, code point in 2 bytes  09  voice: its name, letters up to a 00, and then a list
- *     04  a letter, code point in 3 bytes  0A  a list in the style around it
- *     05  a line break                     0B  a time mark, which draws nothing
+ * The tape. At most CAPTIONS_TAPE_MAX bytes: commands, each a byte of captions_command with its
+ * operands, high byte first. The outer list ends with the tape, every other list and a voice's name
+ * with CAPTIONS_END.
  *
  * The workspace. At least CAPTIONS_WORKSPACE_MIN bytes. Nothing depends on what it held. After the
  * refusals 8 to 11 and 13 it is as it was; else, but for the lines of captions_wrap, it may hold
@@ -31,18 +29,8 @@
  * pixels from the left, of each the bytes red, green, blue, alpha. The bytes after the picture
  * never change, and a refused call changes no byte of the buffer.
  *
- * Settings. The same eight numbers, in this order, begin each call that draws:
- *
- *     width, height   at most CAPTIONS_SIDE_MAX pixels; 0 is allowed
- *     default_color   0xRRGGBBAA: of letters outside every color list
- *     outline_color   0xRRGGBBAA
- *     line_height     at most CAPTIONS_LINE_HEIGHT_MAX pixels; under 16 it counts as 16
- *     bottom_margin   pixels from the lowest row up: any number
- *     outline         pixels around a letter: any number; over 2 it counts as 2
- *     alignment       CAPTIONS_ALIGN_CENTER to CAPTIONS_ALIGN_END
- *
  * Strokes. A letter on a line is one stroke, and 8 more for each pixel of its outline. A cue's
- * strokes have one order; T is how many they are.
+ * strokes have one order; T is how many they are, and does not depend on the height.
  */
 #ifndef CAPTIONS_H
 #define CAPTIONS_H
@@ -54,6 +42,12 @@
 extern "C" {
 #endif
 
+/*
+ * The number of this interface: what is declared here, and what it means. It grows by one with each
+ * change of that, an addition too. A program is linked with the library of its header's version.
+ */
+#define CAPTIONS_VERSION 1
+
 #define CAPTIONS_TAPE_MAX 16384       /* bytes of a tape */
 #define CAPTIONS_WORKSPACE_MIN 65536  /* bytes of a workspace */
 #define CAPTIONS_SIDE_MAX 4096        /* pixels of a picture's width, and of its height */
@@ -61,7 +55,23 @@ extern "C" {
 #define CAPTIONS_COLUMNS_MAX 4096     /* the largest column limit; the smallest is 1 */
 #define CAPTIONS_LETTERS_MAX 4096     /* letters of a cue; breaks and a voice's ": " count too */
 #define CAPTIONS_STRIPES_MAX 64       /* stripes of a picture */
-#define CAPTIONS_RECORD_WORDS 65      /* a record: the stripe height, and then 64 counters */
+#define CAPTIONS_STACK_BYTES 32768    /* of stack that a call needs: twice what was measured */
+
+/* The first byte of each of a tape's commands. */
+enum captions_command {
+    CAPTIONS_END = 0x00,      /* ends a list or a name */
+    CAPTIONS_EMPTY = 0x01,    /* an empty text */
+    CAPTIONS_LETTER_1 = 0x02, /* a letter: its code point in 1 byte */
+    CAPTIONS_LETTER_2 = 0x03, /* a letter: its code point in 2 bytes */
+    CAPTIONS_LETTER_3 = 0x04, /* a letter: its code point in 3 bytes */
+    CAPTIONS_BREAK = 0x05,    /* a line break */
+    CAPTIONS_BOLD = 0x06,     /* a list follows */
+    CAPTIONS_ITALIC = 0x07,   /* a list follows */
+    CAPTIONS_COLOR = 0x08,    /* red, green and blue, a byte each, and then a list */
+    CAPTIONS_VOICE = 0x09,    /* its name, letters up to a CAPTIONS_END, and then a list */
+    CAPTIONS_GROUP = 0x0A,    /* a list in the style around it */
+    CAPTIONS_TIME_MARK = 0x0B /* draws nothing */
+};
 
 /* Where lines stand between the picture's sides. */
 enum captions_align {
@@ -71,6 +81,46 @@ enum captions_align {
     CAPTIONS_ALIGN_RIGHT = 3,
     CAPTIONS_ALIGN_END = 4 /* as RIGHT */
 };
+
+/* How a cue is drawn. A color is 0xRRGGBBAA. */
+typedef struct {
+    uint32_t width;         /* pixels: at most CAPTIONS_SIDE_MAX; 0 is allowed */
+    uint32_t height;        /* pixels: at most CAPTIONS_SIDE_MAX; 0 is allowed */
+    uint32_t default_color; /* of letters outside every color list */
+    uint32_t outline_color;
+    uint32_t line_height;   /* pixels: at most CAPTIONS_LINE_HEIGHT_MAX; under 16 it counts as 16 */
+    uint32_t bottom_margin; /* pixels from the lowest row up: any number */
+    uint32_t outline;       /* pixels around a letter: any number; over 2 it counts as 2 */
+    uint32_t alignment;     /* CAPTIONS_ALIGN_CENTER to CAPTIONS_ALIGN_END */
+} captions_settings;
+
+/*
+ * How far a job is: what is stored with its picture, so that any process can go on with it. Of each
+ * stripe, from the top, it counts the strokes that are done; past the last stripe it holds zeros.
+ */
+typedef struct {
+    uint32_t stripe_height; /* rows: at least 1, and so many that CAPTIONS_STRIPES_MAX are enough */
+    uint32_t counters[CAPTIONS_STRIPES_MAX]; /* each at most T */
+} captions_record;
+
+/* Compiles only where the structs are numbers in a row, without padding. */
+typedef char captions_settings_are_8_numbers[sizeof(captions_settings) == 32 ? 1 : -1];
+typedef char captions_record_is_65_numbers[sizeof(captions_record) == 260 ? 1 : -1];
+
+/* Usual settings: white letters with a black outline of a pixel, opaque; lines at the center. */
+static inline captions_settings captions_settings_usual(uint32_t width, uint32_t height)
+{
+    captions_settings usual;
+    usual.width = width;
+    usual.height = height;
+    usual.default_color = 0xFFFFFFFFu;
+    usual.outline_color = 0x000000FFu;
+    usual.line_height = 20;
+    usual.bottom_margin = 24;
+    usual.outline = 1;
+    usual.alignment = CAPTIONS_ALIGN_CENTER;
+    return usual;
+}
 
 /*
  * Why a call was refused. The place of 1 to 7 is the offset in the tape of the command at fault,
@@ -121,7 +171,13 @@ static inline uint32_t captions_refused(uint64_t answer)
     return (uint32_t)(answer >> 32);
 }
 
-/* The place of a refusal; where the call was accepted, what it answers. */
+/* What an accepted call answers. */
+static inline uint32_t captions_answer(uint64_t answer)
+{
+    return (uint32_t)(answer & 0xFFFFFFFFu);
+}
+
+/* The place of a refusal. */
 static inline uint32_t captions_place(uint64_t answer)
 {
     return (uint32_t)(answer & 0xFFFFFFFFu);
@@ -135,18 +191,21 @@ static inline uint32_t captions_place(uint64_t answer)
  * columns they take; then come the numbers of the letters on lines, line after line. Each number
  * has two bytes, high byte first. Letters are counted from 0 as the tape has them; breaks and a
  * voice's ": " are counted too.
+ *
+ * Letters of unlike style, of which their color is part, are never one word. Wrap takes no default
+ * color and reckons with 0xFFFFFFFF: wherever the settings have another, the lines that Draw makes
+ * may be unlike these. The smallest case is the tape 02 58 02 20 02 41 08 FF FF FF 02 42 00 at 3
+ * columns: Wrap makes the lines X and AB, Draw with the default color 0x00FF00FF makes X A and B.
  */
 uint64_t captions_wrap(const uint8_t *tape, size_t tape_len,
                        uint8_t *workspace, size_t workspace_len,
                        uint32_t column_limit);
 
 /*
- * Draw: clears the picture, draws a tape's cue on it, and answers T. A refusal leaves the picture.
+ * Draw: clears the picture, draws a tape's cue on it, and answers T. The column limit of its lines
+ * is width / 8, or 1 where that is 0. A refusal leaves the picture.
  */
-uint64_t captions_draw(uint32_t width, uint32_t height,
-                       uint32_t default_color, uint32_t outline_color,
-                       uint32_t line_height, uint32_t bottom_margin,
-                       uint32_t outline, uint32_t alignment,
+uint64_t captions_draw(const captions_settings *settings,
                        const uint8_t *tape, size_t tape_len,
                        uint8_t *workspace, size_t workspace_len,
                        uint8_t *picture, size_t picture_len);
@@ -156,34 +215,29 @@ uint64_t captions_draw(uint32_t width, uint32_t height,
  * the top; the last may be lower. The record is written only: it then holds the stripe height and
  * 64 counters of 0.
  *
- * A refusal leaves the picture, and writes 65 zeros to the record.
+ * A refusal leaves the picture, and writes zeros to all of the record.
  */
-uint64_t captions_open(uint32_t width, uint32_t height,
-                       uint32_t default_color, uint32_t outline_color,
-                       uint32_t line_height, uint32_t bottom_margin,
-                       uint32_t outline, uint32_t alignment,
+uint64_t captions_open(const captions_settings *settings,
                        const uint8_t *tape, size_t tape_len,
                        uint8_t *workspace, size_t workspace_len,
                        uint8_t *picture, size_t picture_len,
                        uint32_t stripe_height,
-                       uint32_t record[CAPTIONS_RECORD_WORDS]);
+                       captions_record *record);
 
 /*
  * Work: does the next strokes on the rows of a stripe, counted from 0: as many as the budget, any
- * number, or as are left. Answers how many they were; the stripe's counter, record[1 + stripe],
- * grows by that, and nothing else of the record or of the picture changes.
+ * number, or as are left. Answers how many they were; the stripe's counter grows by that, and
+ * nothing else of the record or of the picture changes.
  *
- * Settings and tape are those of Open, picture and record as the last call left them. Once every
- * stripe's counter is T, the picture is what Draw leaves. A refusal leaves picture and record.
+ * Settings and tape are those of Open, picture and record as the last call left them, in this
+ * process or in another. Once every stripe's counter is T, the picture is what Draw leaves. With a
+ * budget of 0 it only checks what it is handed. A refusal leaves picture and record.
  */
-uint64_t captions_work(uint32_t width, uint32_t height,
-                       uint32_t default_color, uint32_t outline_color,
-                       uint32_t line_height, uint32_t bottom_margin,
-                       uint32_t outline, uint32_t alignment,
+uint64_t captions_work(const captions_settings *settings,
                        const uint8_t *tape, size_t tape_len,
                        uint8_t *workspace, size_t workspace_len,
                        uint8_t *picture, size_t picture_len,
-                       uint32_t record[CAPTIONS_RECORD_WORDS],
+                       captions_record *record,
                        uint32_t stripe, uint32_t budget);
 
 #ifdef __cplusplus

@@ -1,3 +1,3 @@
--- The definitions; then a promise.
+-- The definitions: the functions' contracts, and demand 3 told with them.
 pub mod Interface
-pub mod Packed
+pub mod HistoryInC

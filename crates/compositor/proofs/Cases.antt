@@ -1,4 +1,4 @@
--- DOCUMENT 01'S CASES a TO l, and some more: tapes and settings, and what the calls make of them, by computation.
+-- DOCUMENT 01'S CASES a TO l, and some more: tapes and settings, and what Wrap and Draw make of them, by computation.
 use mathlib.Core.Path.{_≡_, refl}
 use mathlib.Core.List.{List, [], _∷_, _++_, map, flatten}
 use Prim.Native.Nat.{ℕ, _+_, _-_, _*_}
@@ -21,13 +21,11 @@ use Rattle.compositor.specs.Layout.{lastBaseLine, baseLine, lineStart}
 use Rattle.compositor.specs.Outline.{ringRow, ringRows, ring}
 use Rattle.compositor.specs.Strokes.{Stroke, glyphStrokes, lineStrokes, linesStrokes, drawing}
 use Rattle.compositor.specs.Picture.{strokesOn, rowAfter}
-use Rattle.compositor.specs.Draw.{tapeStrokes, drawCall}
-use Rattle.compositor.specs.Stripes.{countersUnsound}
-use Rattle.compositor.specs.Work.{openCall, stripeCall, workCall}
+use Rattle.compositor.specs.Draw.{tapeStrokes, cueCall, drawCall}
 use Rattle.compositor.specs.Plain.{plainStart}
 
 -- white letters with a black outline, in lines as high as a cell
-abbrev settings : ℕ → ℕ → ℕ → ℕ → ℕ → Settings
+abbrev pub settings : ℕ → ℕ → ℕ → ℕ → ℕ → Settings
 settings width height margin outline align =
     record {
       width = width;
@@ -60,15 +58,7 @@ Strokes f s size tape told = onAccepted (map f) (drawCall s leastRoom size tape)
 abbrev Total : ℕ → List ℕ → ℕ → Type 0
 Total outline tape n = onAccepted length (drawCall (settings 32 0 0 outline 0) leastRoom 0 tape) ≡ accepted n
 
--- a job on a picture of one row in stripes of one, whose stripes have had c strokes, d and none: Work on stripe k with budget n
-abbrev work : ℕ → ℕ → ℕ → ℕ → List ℕ → Outcome (List Stroke)
-work c d k n tape =
-    workCall (settings 32 1 0 1 0) leastRoom 128 tape (record { «stripe_height» = 1; counters = c ∷ d ∷ replicate 62 0 }) k n
-
-abbrev Does : ℕ → ℕ → List ℕ → ℕ → Type 0
-Does c n tape m = onAccepted length (work c 0 0 n tape) ≡ accepted m
-
-abbrev AB : List ℕ
+abbrev pub AB : List ℕ
 AB = lettersBytes (0x41 ∷ 0x42 ∷ [])
 
 pub record Cases : Type 0 where
@@ -128,24 +118,13 @@ pub record Cases : Type 0 where
   pub align-range : Refuses (settings 1 1 0 0 5) 4 (0x0c ∷ []) 8 0
   pub short-picture : Refuses (settings 2 3 0 0 0) 23 (0x0c ∷ []) 9 0
   pub long-enough : Refuses (settings 2 3 0 0 0) 24 (0x0c ∷ []) 1 0
-  -- over 64 stripes, or none, come before the tape's faults, and a short workspace before them
-  pub stripes :
-      (openCall (settings 1 64 0 0 0) leastRoom 256 (0x0c ∷ []) 1 ≡ refused 1 0)
-      × (openCall (settings 1 65 0 0 0) leastRoom 260 (0x0c ∷ []) 1 ≡ refused 13 0)
-      × (openCall (settings 1 0 0 0 0) leastRoom 0 (0x0c ∷ []) 0 ≡ refused 13 0)
-      × (openCall (settings 1 65 0 0 0) (leastRoom - 1) 260 (0x0c ∷ []) 1 ≡ refused 11 0)
-  -- of the 18 strokes of AB with an outline of 1, 5 are done, or all
-  pub budgets : Does 5 0 AB 0 × Does 5 3 AB 3 × Does 5 0xffff_ffff AB 13 × Does 18 7 AB 0
-  -- a counter over T, or past the last stripe, comes before a stripe that is not there
-  pub records :
-      (work 19 0 1 1 AB ≡ refused 14 0) × (work 0 1 0 1 AB ≡ refused 14 0) × (work 18 0 1 1 AB ≡ refused 12 0) × (work 0 0 0xffff_ffff 1 AB ≡ refused 12 0)
   -- the A of a picture of one cell: its row 1 is 18 hexadecimal
   pub row :
       onAccepted (λ ts. rowAfter (settings 8 16 0 0 0) ts 1 1) (drawCall (settings 8 16 0 0 0) leastRoom 512 (0x02 ∷ 0x41 ∷ []))
       ≡ accepted (replicate 12 0 ++ (replicate 8 255 ++ replicate 12 0))
 
 pub cases : Cases
-unfolding drawCall openCall workCall stripeCall countersUnsound tapeStrokes outOfRange drawing linesStrokes lineStrokes glyphStrokes ring ringRows ringRow lineStart baseLine rowAfter strokesOn strokeRow paintColumns paintColumn blendPixel blendOver blendByte blendAlpha tabulate regularTable wrapRuns visibleCols logicalLines tokenise isSpaceToken chunks putChunks place putToken putTokens fill withoutLast upFrom flatten tapeLetters tapeRuns read faultOf commandOf codePoint isLetter isOpener isScalar added mergeInto lettersOf sameStyle letterBytes
+unfolding cueCall tapeStrokes outOfRange drawing linesStrokes lineStrokes glyphStrokes ring ringRows ringRow lineStart baseLine rowAfter strokesOn strokeRow paintColumns paintColumn blendPixel blendOver blendByte blendAlpha tabulate regularTable wrapRuns visibleCols logicalLines tokenise isSpaceToken chunks putChunks place putToken putTokens fill withoutLast upFrom flatten tapeLetters tapeRuns read faultOf commandOf codePoint isLetter isOpener isScalar added mergeInto lettersOf sameStyle letterBytes
 cases =
     record {
       a = (Wrap.cases .a, refl);
@@ -177,8 +156,5 @@ cases =
       align-range = refl;
       short-picture = refl;
       long-enough = refl;
-      stripes = (refl, refl, refl, refl);
-      budgets = (refl, refl, refl, refl);
-      records = (refl, refl, refl, refl);
       row = refl;
     }

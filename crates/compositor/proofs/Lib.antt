@@ -1,4 +1,4 @@
--- Document 01's cases; laws of strokes and of the definitions; what each step of the code comes to; what the calls come to; demand 3.
+-- Document 01's cases; laws of strokes and of the definitions; what each step of the code comes to; how far the call's outcome goes.
 pub mod Cases
 pub mod Painting
 pub mod Outlines
@@ -8,13 +8,8 @@ pub mod Held
 pub mod Total
 pub mod Off
 pub mod Cleared
-pub mod Stripes
 pub mod Whole
 pub mod Checks
 pub mod Admitted
-pub mod Calls
-pub mod Jobs
-pub mod Demand3
-pub mod Contracts
 pub mod Answers
 pub mod Plain

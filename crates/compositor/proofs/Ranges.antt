@@ -1,14 +1,13 @@
 -- What is in range, and the bounds of places.
-use mathlib.Core.Path.{_≡_, refl, sym}
-use mathlib.Core.Bool.{Bool, true, false, _&&_, _||_, true≢false}
+use mathlib.Core.Path.{_≡_, refl}
+use mathlib.Core.Bool.{Bool, true, false, _||_, true≢false}
 use Prim.Native.Nat.{ℕ, _*_, _≤_}
 use native.Mathlib.Nat.{mul-le-mul}
 use native.Mathlib.Omega.{arith}
-use borrow.Author.Tests.{ltb-false, leb-true, eqb-true}
-use lib.Dec.{eqb, leb, ltb}
+use borrow.Author.Tests.{ltb-false}
+use lib.Dec.{ltb}
 use Rattle.compositor.specs.declared.Settings.{Settings}
 use Rattle.compositor.specs.Settings.{mostPixels, mostLineHeight, lastAlign, outOfRange, rowBytes, pictureBytes}
-use Rattle.compositor.specs.Drawn.{keepsWorkspace}
 use Rattle.compositor.specs.Ready.{InRange}
 
 pub in-range : (s : Settings) → outOfRange s ≡ false → InRange s
@@ -39,13 +38,3 @@ picture-small s r =
 -- lines reach at most 2^22 rows up
 pub rise : (below h : ℕ) → below ≤ 4096 → h ≤ 1024 → below * h ≤ 4194304
 rise below h p q = let r : below * h ≤ 4096 * 1024 = mul-le-mul p q in omega arith
-
--- refusals that leave the workspace are none of the tape's
-pub keeps-least : (number : ℕ) → keepsWorkspace number ≡ true → 8 ≤ number
-unfolding keepsWorkspace
-keeps-least number e = by (leb 8 number) (leb number 11) (eqb number 13) refl refl e
-  where
-    by : (a b c : Bool) → leb 8 number ≡ a → eqb number 13 ≡ c → (a && b || c) ≡ true → 8 ≤ number
-    by true b c p q e = leb-true 8 number p
-    by false b true p q e = let is = eqb-true number 13 q in omega arith
-    by false b false p q e = absurd (true≢false (sym e))

@@ -1,5 +1,5 @@
--- The definitions in reading order, with the contracts of the calls and demand 3; then the promises that the crate's functions make to each
--- other.
+-- The definitions in reading order, with the contract of the call; then the promises that the crate's functions make to each other, and to those
+-- of the crates above.
 pub mod Settings
 pub mod Layout
 pub mod Outline
@@ -7,10 +7,6 @@ pub mod Strokes
 pub mod Picture
 pub mod Draw
 pub mod Drawn
-pub mod Stripes
-pub mod Work
-pub mod Worked
-pub mod History
 pub mod Plain
 pub mod Read
 pub mod Painting

@@ -33,3 +33,7 @@ pub record Readable (ws : List ℕ) (letters : ℕ) : Type 0 where
   pub room : leastRoom ≤ length ws
   pub few : letters ≤ mostLetters
   pub known : (k : ℕ) → k < letters → numberAt ws k < mostLetters
+
+-- all of them: the strokes of the caption of so many lines
+unfoldable pub strokesIn : Settings → List ℕ → ℕ → List Stroke
+strokesIn s ws lines = strokesAt s ws 0 0 lines

@@ -1,24 +1,23 @@
 // The compositor: draws a cue's letters, outlined, on a cleared picture.
 // Carried over from `Compositor` of src/compositor.rs of oxideav-subtitle; what is drawn is in specs/.
 // `ws` is the workspace throughout.
-pub mod job;
 mod layout;
-mod strokes;
+pub mod strokes;
 
 ghost use mathlib.Core.Path.{_≡_};
 ghost use mathlib.Core.List.{_++_};
 ghost use Prim.Native.Nat.{_+_, _*_, _≤_, _<_};
 ghost use lib.ListN.{length, drop, replicate};
-ghost use Rattle.tape.specs.Tape.{mostBytes, leastRoom, refuseLengths};
+ghost use Rattle.tape.specs.Tape.{mostBytes, leastRoom};
 ghost use Rattle.compositor.specs.Settings.{outOfRange, pictureBytes};
-ghost use Rattle.compositor.specs.Outline.{outlineOf};
-ghost use Rattle.compositor.specs.Picture.{pictureAfter};
-ghost use Rattle.compositor.specs.Draw.{tapeStrokes, refuseSettings};
+ghost use Rattle.compositor.specs.Outline.{mostOutline, outlineOf};
+ghost use Rattle.compositor.specs.Draw.{tapeStrokes, cueCall, drawPicture};
 ghost use Rattle.compositor.specs.Drawn.{Drawn};
-ghost use Rattle.compositor.specs.Read.{strokesAt};
-ghost use Rattle.compositor.specs.Ready.{InRange, Admitted, Checked, Lined, CueRead};
+ghost use Rattle.compositor.specs.Read.{strokesIn};
+ghost use Rattle.compositor.specs.Ready.{InRange, Checked, Lined, CueRead};
 use font::Rows;
 use strokes::Window;
+use tape::Answer;
 use tape::Style;
 
 const MOST_PIXELS: u32 = 4096;
@@ -58,7 +57,7 @@ impl Settings {
         LAST_ALIGN < self.align
     }
 
-    fn picture_bytes(self) -> usize
+    pub fn picture_bytes(self) -> usize
         requires { ⌜ InRange self ⌝ }
         ensures { λ r. ⌜ r ≡ pictureBytes self ⌝ }
     {
@@ -67,7 +66,7 @@ impl Settings {
 
     // The outline as it is drawn.
     fn outline(self) -> usize
-        ensures { λ r. ⌜ (r ≡ outlineOf self) × (r ≤ 2) ⌝ }
+        ensures { λ r. ⌜ (r ≡ outlineOf self) × (r ≤ mostOutline) ⌝ }
     {
         if self.outline_px < MOST_OUTLINE {
             return self.outline_px as usize;
@@ -77,32 +76,24 @@ impl Settings {
 
     // The strokes of a letter: its outline's, and its own.
     fn letter_strokes(self) -> usize
-        ensures { λ r. ⌜ (r ≡ 1 + 8 * outlineOf self) × (r ≤ 17) ⌝ }
+        ensures { λ r. ⌜ (r ≡ 1 + 8 * outlineOf self) × (r ≤ 1 + 8 * mostOutline) ⌝ }
     {
         1 + 8 * self.outline()
     }
 }
 
-// What a call comes to.
-pub enum Answer {
-    // How many strokes there are, or were drawn.
-    Strokes(usize),
-    // A refusal's number and place.
-    Refused(u8, usize),
-}
-
 // A tape's caption.
-enum Cue {
+pub enum Cue {
     // It lies in the workspace, wrapped: how many lines it has, and strokes.
     Laid(usize, usize),
     // A refusal's number and place.
     Refused(u8, usize),
 }
 
-// What is refused before a tape is read, by its number: 8, 9, 10 or 11. 0 is nothing.
-fn station_fault(s: Settings, tape: &[u8], room: usize, size: usize) -> u8
-    ensures { λ r. ⌜ Checked (λ o. refuseSettings s size (refuseLengths (now (tape .entry)) room o))
-        (Admitted s (length (now (tape .entry))) room size) r ⌝ }
+// What is refused before a tape is read, by its number: 8, 9, 10 or 11, or else `own`, for what the
+// call has to check besides. 0 is nothing.
+fn first_fault(s: Settings, tape: &[u8], room: usize, size: usize, own: u8) -> u8
+    ensures { λ r. ⌜ Checked s (now (tape .entry)) room size own r ⌝ }
 {
     if s.is_out_of_range() {
         return 8;
@@ -116,26 +107,39 @@ fn station_fault(s: Settings, tape: &[u8], room: usize, size: usize) -> u8
     if room < tape::LEAST_ROOM {
         return 11;
     }
-    0
+    own
 }
 
 // Reads a tape and puts its letters on lines.
-fn read_cue(s: Settings, tape: &[u8], ws: &mut [u8]) -> Cue
+fn lay_cue(s: Settings, tape: &[u8], ws: &mut [u8]) -> Cue
     requires { ⌜ InRange s × (length (now tape) ≤ mostBytes) × (leastRoom ≤ length (now ws)) ⌝ }
     ensures { λ r. ⌜ CueRead s (tapeStrokes s (now (tape .entry))) (now (ws .entry)) (now (ws .exit)) r ⌝ }
 {
     let color = s.default_color;
     match tape::read_tape(tape, ws, Style::default_with(color)) {
-        tape::Answer::Letters(count) => {
+        Answer::Accepted(count) => {
             let made = wrap::wrap_runs(ws, count, layout::column_limit(s));
             Cue::Laid(made.lines, made.letters * s.letter_strokes())
         }
-        tape::Answer::Refused(number, place) => Cue::Refused(number, place),
+        Answer::Refused(number, place) => Cue::Refused(number, place),
     }
 }
 
+// Checks what every call that draws checks, for a picture's buffer of `size` bytes, and reads the
+// tape; `own` is the number of what the call has to refuse besides, before the tape is read, or 0.
+pub fn read_cue(s: Settings, tape: &[u8], ws: &mut [u8], size: usize, own: u8) -> Cue
+    ensures { λ r. ⌜ CueRead s (cueCall s (length (now (ws .entry))) size (now (tape .entry)) own)
+        (now (ws .entry)) (now (ws .exit)) r ⌝ }
+{
+    let fault = first_fault(s, tape, ws.len(), size, own);
+    if 0 < fault {
+        return Cue::Refused(fault, 0);
+    }
+    lay_cue(s, tape, ws)
+}
+
 // Zeroes the first `size` bytes.
-fn clear(picture: &mut [u8], size: usize)
+pub fn clear(picture: &mut [u8], size: usize)
     requires { ⌜ size ≤ length (now picture) ⌝ }
     ensures { λ _. ⌜ now (picture .exit) ≡ replicate size 0 ++ drop size (now (picture .entry)) ⌝ }
 {
@@ -148,8 +152,8 @@ fn clear(picture: &mut [u8], size: usize)
 
 // Draws the caption that lies in the workspace, all its strokes, on a cleared picture.
 fn draw_cue(s: Settings, ws: &[u8], lines: usize, total: usize, picture: &mut [u8])
-    requires { ⌜ InRange s × (pictureBytes s ≤ length (now picture)) × Lined s (now ws) lines total ⌝ }
-    ensures { λ _. ⌜ now (picture .exit) ≡ pictureAfter s (strokesAt s (now (ws .entry)) 0 0 lines) total (now (picture .entry)) ⌝ }
+    requires { ⌜ InRange s × (pictureBytes s ≤ length (now picture)) × Lined (now ws) lines × (total ≡ length (strokesIn s (now ws) lines)) ⌝ }
+    ensures { λ _. ⌜ now (picture .exit) ≡ drawPicture s (now (picture .entry)) (strokesIn s (now (ws .entry)) lines) ⌝ }
 {
     clear(picture, s.picture_bytes());
     let rows = Rows {
@@ -166,14 +170,10 @@ fn draw_cue(s: Settings, ws: &[u8], lines: usize, total: usize, picture: &mut [u
 pub fn render_into(s: Settings, tape: &[u8], ws: &mut [u8], picture: &mut [u8]) -> Answer
     ensures { λ r. ⌜ Drawn s (now (tape .entry)) (now (ws .entry)) (now (ws .exit)) (now (picture .entry)) (now (picture .exit)) r ⌝ }
 {
-    let fault = station_fault(s, tape, ws.len(), picture.len());
-    if 0 < fault {
-        return Answer::Refused(fault, 0);
-    }
-    match read_cue(s, tape, ws) {
+    match read_cue(s, tape, ws, picture.len(), 0) {
         Cue::Laid(lines, total) => {
             draw_cue(s, ws, lines, total, picture);
-            Answer::Strokes(total)
+            Answer::Accepted(total)
         }
         Cue::Refused(number, place) => Answer::Refused(number, place),
     }

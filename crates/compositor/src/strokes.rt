@@ -12,11 +12,11 @@ ghost use Rattle.font.specs.Places.{Lent, Reachable};
 ghost use Rattle.tape.specs.Stored.{letterAt};
 ghost use Rattle.wrap.specs.Laid.{columnsOn};
 ghost use Rattle.compositor.specs.Layout.{lineWidth, lineStart};
-ghost use Rattle.compositor.specs.Outline.{distance, onRing, ringRow, ring};
+ghost use Rattle.compositor.specs.Outline.{mostOutline, distance, onRing, ringRow, ring};
 ghost use Rattle.compositor.specs.Strokes.{letterStrokes, lineStrokes};
-ghost use Rattle.compositor.specs.Read.{lettersAt, lettersFrom, strokesAt, Readable};
+ghost use Rattle.compositor.specs.Read.{lettersAt, lettersFrom, strokesAt, strokesIn, Readable};
 ghost use Rattle.compositor.specs.Painting.{Near, Fonts, strokeOf, strokesOf, cut, misses, after, offRows, painted, Painted};
-ghost use Rattle.compositor.specs.Ready.{InRange};
+ghost use Rattle.compositor.specs.Ready.{mostLines, InRange, Lined};
 use crate::Settings;
 use crate::layout;
 use font::BitmapFont;
@@ -114,7 +114,7 @@ fn draw_offset(
     window: Window,
 ) -> Window
     requires { ⌜ Lent (length (now part)) rows × Near at × Inked code pen (now glyph) (now offsets)
-        × (o ≤ 2) × (dx ≤ 2 * o) × (dy ≤ 2 * o) ⌝ }
+        × (o ≤ mostOutline) × (dx ≤ 2 * o) × (dy ≤ 2 * o) ⌝ }
     ensures { λ r. ⌜ Painted rows (strokesOf code pen o at (ringRow o dy dx 1))
         window (now (part .entry)) (now (part .exit)) r ⌝ }
 {
@@ -141,7 +141,7 @@ fn draw_ring_row(
     window: Window,
 ) -> Window
     requires { ⌜ Lent (length (now part)) rows × Near at × Inked code pen (now glyph) (now offsets)
-        × (o ≤ 2) × (dy ≤ 2 * o) ⌝ }
+        × (o ≤ mostOutline) × (dy ≤ 2 * o) ⌝ }
     ensures { λ r. ⌜ Painted rows (strokesOf code pen o at (ringRow o dy 0 (2 * o + 1)))
         window (now (part .entry)) (now (part .exit)) r ⌝ }
 {
@@ -166,7 +166,7 @@ fn draw_outline(
     o: usize,
     window: Window,
 ) -> Window
-    requires { ⌜ Lent (length (now part)) rows × Near at × Inked code pen (now glyph) (now offsets) × (o ≤ 2) ⌝ }
+    requires { ⌜ Lent (length (now part)) rows × Near at × Inked code pen (now glyph) (now offsets) × (o ≤ mostOutline) ⌝ }
     ensures { λ r. ⌜ Painted rows (strokesOf code pen o at (ring o)) window (now (part .entry)) (now (part .exit)) r ⌝ }
 {
     if o == 0 {
@@ -274,7 +274,7 @@ fn draw_line(
 // Whether lines with base lines from place `high` down to place `low`, outlined by o, miss the lent
 // rows.
 fn is_off(rows: Rows, high: usize, low: usize, o: usize) -> bool
-    requires { ⌜ (rows .count ≤ 4096) × (rows .first ≤ 4096) × (low < 2 * origin) × (o ≤ 2) ⌝ }
+    requires { ⌜ (rows .count ≤ 4096) × (rows .first ≤ 4096) × (low < 2 * origin) × (o ≤ mostOutline) ⌝ }
     ensures { λ r. ⌜ r ≡ offRows rows high low o ⌝ }
 {
     let top = ORIGIN + rows.first;
@@ -301,7 +301,7 @@ fn place_line(
     window: Window,
 ) -> Window
     requires { ⌜ Lent (length (now part)) rows × Fonts (now regular) (now bold) (now slanted)
-        × Readable (now ws) (span .first + span .letters) × InRange s × (line ≤ 4096) × (32 ≤ y) × (y + 16 < 2 * origin) ⌝ }
+        × Readable (now ws) (span .first + span .letters) × InRange s × (line < mostLines) × (32 ≤ y) × (y + 16 < 2 * origin) ⌝ }
     ensures { λ r. ⌜ Painted rows
         (lineStrokes s (lineStart s (lineWidth (columnsOn (now (ws .entry)) line))) y
         (lettersAt (now (ws .entry)) (span .first) (span .letters)))
@@ -334,7 +334,7 @@ fn draw_each_line(
     window: Window,
 )
     requires { ⌜ Lent (length (now part)) rows × Fonts (now regular) (now bold) (now slanted)
-        × Readable (now ws) (lettersFrom (now ws) 0 lines) × InRange s × (lines ≤ 4097) ⌝ }
+        × Readable (now ws) (lettersFrom (now ws) 0 lines) × InRange s × (lines ≤ mostLines) ⌝ }
     ensures { λ _. ⌜ now (part .exit) ≡ painted rows (cut window (strokesAt s (now (ws .entry)) 0 0 lines)) (now (part .entry)) ⌝ }
 {
     let mut left = window;
@@ -353,8 +353,8 @@ fn draw_each_line(
 // Draws the lines of the workspace. The tables are laid out here, once, and lent; not where no line
 // can touch the lent rows.
 pub fn draw_lines(part: &mut [u8], rows: Rows, ws: &[u8], s: Settings, lines: usize, window: Window)
-    requires { ⌜ Lent (length (now part)) rows × Readable (now ws) (lettersFrom (now ws) 0 lines) × InRange s × (lines ≤ 4097) ⌝ }
-    ensures { λ _. ⌜ now (part .exit) ≡ painted rows (cut window (strokesAt s (now (ws .entry)) 0 0 lines)) (now (part .entry)) ⌝ }
+    requires { ⌜ Lent (length (now part)) rows × Lined (now ws) lines × InRange s ⌝ }
+    ensures { λ _. ⌜ now (part .exit) ≡ painted rows (cut window (strokesIn s (now (ws .entry)) lines)) (now (part .entry)) ⌝ }
 {
     if lines == 0 {
         return;

@@ -90,4 +90,6 @@ lists = record {
   set-short = λ n v. refl;
   set-first = λ x v l. refl;
   set-later = λ n x v l. refl;
+  sets-none = λ l n. refl;
+  sets-some = λ l n v vs. refl;
 }

@@ -6,6 +6,7 @@ use Prim.Native.Nat.{ℕ, zero, suc, _+_, _-_, _*_, _/_, _%_, _^_, _≤_, _<_, m
 use lib.Bits.{bitOr}
 use lib.Dec.{leb, ltb, eqb}
 use lib.ListN.{length, getD, set, take, drop, replicate}
+use lib.Seq.{sets}
 
 -- numbers: 0, 1, 2 and so on, without end
 pub record Numbers : Type 0 where
@@ -71,3 +72,5 @@ pub record Lists (A B : Type 0) : Type 0 where
   pub set-short : (n : ℕ) (v : A) → set [] n v ≡ []
   pub set-first : (x v : A) (l : List A) → set (x ∷ l) 0 v ≡ v ∷ l
   pub set-later : (n : ℕ) (x v : A) (l : List A) → set (x ∷ l) (suc n) v ≡ x ∷ set l n v
+  pub sets-none : (l : List A) (n : ℕ) → sets l n [] ≡ l
+  pub sets-some : (l : List A) (n : ℕ) (v : A) (vs : List A) → sets l n (v ∷ vs) ≡ sets (set l n v) (suc n) vs

@@ -17,7 +17,7 @@ fn print_letters(count: usize, letters: &[u8]) -> bool {
 // Reads one tape; false where the output takes no more.
 fn print_tape(tape: &[u8], workspace: &mut [u8]) -> bool {
     match tape::read_tape(tape, workspace, Style::default_with([255; 4])) {
-        Answer::Letters(count) => print_letters(count, &workspace[0..8 * count]),
+        Answer::Accepted(count) => print_letters(count, &workspace[0..8 * count]),
         Answer::Refused(number, place) => report::write_refusal(number, place),
     }
 }

@@ -6,7 +6,7 @@ ghost use Prim.Native.Nat.{_+_, _*_, _≤_};
 ghost use lib.ListN.{length};
 use libc::STDERR_FILENO;
 use libc::STDIN_FILENO;
-use wrap::Answer;
+use tape::Answer;
 
 const LIMIT: u32 = 4;
 
@@ -63,7 +63,7 @@ fn write_lines(table: &[u8], lines: usize) -> bool
 fn wrap_input(buffer: &mut [u8], workspace: &mut [u8]) -> bool {
     let end = io::read_full(STDIN_FILENO, buffer);
     match wrap::wrap(&buffer[0..end], workspace, LIMIT) {
-        Answer::Lines(lines) => write_lines(workspace, lines),
+        Answer::Accepted(lines) => write_lines(workspace, lines),
         Answer::Refused(number, place) => report::write_refusal(number, place),
     }
 }

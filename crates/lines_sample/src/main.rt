@@ -9,8 +9,8 @@
 ghost use Prim.Native.Nat.{_+_, _*_, _≤_, _<_};
 ghost use lib.ListN.{length};
 use libc::STDIN_FILENO;
+use tape::Answer;
 use tape::Style;
-use wrap::Answer;
 
 // How many letters stand on the lines of a table.
 fn letters_on(table: &[u8], lines: usize) -> usize
@@ -66,7 +66,7 @@ fn print_lines(tape: &[u8], limit: usize, workspace: &mut [u8], letters: &mut [u
     requires { ⌜ limit < 65536 ⌝ }
 {
     match wrap::wrap(tape, workspace, limit as u32) {
-        Answer::Lines(lines) => {
+        Answer::Accepted(lines) => {
             tape::read_tape(tape, letters, Style::default_with([255; 4]));
             write_lines(lines, workspace, letters)
         }

@@ -13,11 +13,10 @@
 // run of the gate holds drawing, in one call and in many, to the original.
 ghost use Prim.Native.Nat.{_+_, _≤_, _<_};
 ghost use lib.ListN.{length};
-use compositor::Answer;
 use compositor::Settings;
-use compositor::job;
-use compositor::job::JobRecord;
+use job::JobRecord;
 use libc::STDIN_FILENO;
+use tape::Answer;
 
 // The bytes of an entry before its Works.
 const HEADER: usize = 36;
@@ -67,7 +66,7 @@ fn fill(picture: &mut [u8], size: usize)
 
 fn write_answer(answer: Answer, picture: &[u8]) -> bool {
     match answer {
-        Answer::Strokes(strokes) => report::write_digest(strokes, report::digest(0, picture)),
+        Answer::Accepted(strokes) => report::write_digest(strokes, report::digest(0, picture)),
         Answer::Refused(number, place) => report::write_refusal(number, place),
     }
 }
@@ -118,7 +117,7 @@ fn open(
     }
     let record = opened.job;
     match answer {
-        Answer::Strokes(_) => work(s, works, tape, workspace, picture, record),
+        Answer::Accepted(_) => work(s, works, tape, workspace, picture, record),
         Answer::Refused(_, _) => true,
     }
 }

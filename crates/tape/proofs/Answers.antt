@@ -1,8 +1,8 @@
--- For the layers above: what each answer of the reader tells.
-use mathlib.Core.Path.{_≡_, _∙_, refl, sym}
+-- For the layers above: how far the reader's outcome goes, and what is known of letters that were read.
+use mathlib.Core.Path.{_≡_, refl}
 use mathlib.Core.Bool.{Bool, true, false}
 use mathlib.Core.List.{List}
-use Prim.Native.Nat.{ℕ, _≤_}
+use Prim.Native.Nat.{ℕ, _≤_, _<_, _^_}
 use native.Mathlib.Omega.{arith}
 use borrow.Author.Tests.{le-ltb, ltb-false}
 use lib.Dec.{lit≤, ltb}
@@ -12,82 +12,57 @@ use Rattle.tape.specs.declared.Answer.{Answer}
 use Rattle.tape.specs.Outcome.{Outcome, accepted, refused, refuseIf}
 use Rattle.tape.specs.Command.{mostLetters}
 use Rattle.tape.specs.Runs.{Letter}
+use Rattle.tape.specs.Call.{nothing}
 use Rattle.tape.specs.Tape.{mostBytes, leastRoom, tapeLetters, tapeRead}
-use Rattle.tape.specs.Stored.{stored}
-use Rattle.tape.specs.Reading.{answerOf, Left, TapeRead}
-use Rattle.tape.proofs.Bounds.{Bounded, letters-bounded}
+use Rattle.tape.specs.TapeRead.{stored, TapeRead}
+use Rattle.tape.proofs.Bounds.{letters-bounded}
+use Rattle.tape.proofs.Bounds as Bounds
+use Rattle.tape.proofs.Calls.{Bounded, refuse-bounded, weaken, Accepts, Packs, packs}
 
--- the lengths are admitted, and there are n letters, which the workspace holds
-pub record Accepted (tape ws ws' : List ℕ) (s : Style) (n : ℕ) : Type 0 where
-  pub letters : List Letter
-  pub means : tapeRead s (length ws) tape ≡ accepted letters
-  pub count : n ≡ length letters
-  pub few : n ≤ mostLetters
+-- letters that were read: there are not too many, and the lengths are admitted
+pub record Fits (tape : List ℕ) (room : ℕ) (ls : List Letter) : Type 0 where
+  pub few : length ls ≤ mostLetters
   pub short : length tape ≤ mostBytes
-  pub room : leastRoom ≤ length ws
-  pub holds : ws' ≡ stored ws 0 letters
+  pub enough : leastRoom ≤ room
 
--- the number is at most 11, the place is on the tape or at its end, as far as a tape may go, and only the tape's own refusals, 1 to 7,
--- leave the workspace free
-pub record Refused (tape ws ws' : List ℕ) (s : Style) (number place : ℕ) : Type 0 where
-  pub means : tapeRead s (length ws) tape ≡ refused number place
-  pub most : number ≤ 11
-  pub on : place ≤ length tape
-  pub near : place ≤ mostBytes
-  pub keeps : 8 ≤ number → ws' ≡ ws
-
--- ---- bounds of the call
-
-abbrev pub Fits : List ℕ → ℕ → Outcome (List Letter) → Type 0
-Fits tape room (accepted ls) = (length ls ≤ mostLetters) × (length tape ≤ mostBytes) × (leastRoom ≤ room)
-Fits tape room (refused number place) = (number ≤ 11) × (place ≤ length tape) × (place ≤ mostBytes) × (8 ≤ number → 10 ≤ number)
-
-pub fits : (s : Style) (room : ℕ) (tape : List ℕ) → Fits tape room (tapeRead s room tape)
-unfolding tapeRead
-fits s room tape = long (ltb mostBytes (length tape)) refl (ltb room leastRoom) refl
+pub tape-bounded : (s : Style) (tape : List ℕ) → length tape ≤ mostBytes → Bounded (λ ls. length ls ≤ mostLetters) 7 (tapeLetters s tape)
+tape-bounded s tape short = go (tapeLetters s tape) (letters-bounded s tape)
   where
-    own : (o : Outcome (List Letter)) → length tape ≤ mostBytes → leastRoom ≤ room → Bounded (length tape) o → Fits tape room o
-    own (accepted ls) h k b = (b, h, k)
-    own (refused number place) h k b = let most = b .most in let on = b .on in (omega arith, on, omega arith, λ h. absurd (omega arith))
+    go : (o : Outcome (List Letter)) → Bounds.Bounded (length tape) o → Bounded (λ ls. length ls ≤ mostLetters) 7 o
+    go (accepted ls) b = b
+    go (refused number place) b = let on = b .on in record { least = b .least; greatest = b .most; near = omega arith }
 
-    long : (t : Bool) → ltb mostBytes (length tape) ≡ t → (u : Bool) → ltb room leastRoom ≡ u
-        → Fits tape room (refuseIf t 10 0 (refuseIf u 11 0 (tapeLetters s tape)))
-    long true e u f = (lit≤ tt, omega arith, lit≤ tt, λ h. lit≤ tt)
-    long false e true f = (lit≤ tt, omega arith, lit≤ tt, λ h. lit≤ tt)
-    long false e false f = own (tapeLetters s tape) (ltb-false mostBytes (length tape) e) (ltb-false room leastRoom f) (letters-bounded s tape)
+pub fits : (s : Style) (room : ℕ) (tape : List ℕ) → Bounded (Fits tape room) 11 (tapeRead s room tape)
+unfolding tapeRead
+fits s room tape =
+    refuse-bounded (Fits tape room) 11 (ltb mostBytes (length tape)) 10 _ (lit≤ tt) (lit≤ tt)
+    (λ short. refuse-bounded (Fits tape room) 11 (ltb room leastRoom) 11 (tapeLetters s tape) (lit≤ tt) (lit≤ tt)
+    (λ enough. own (ltb-false mostBytes (length tape) short) (ltb-false room leastRoom enough) (tapeLetters s tape) (letters-bounded s tape)))
+  where
+    own : length tape ≤ mostBytes → leastRoom ≤ room → (o : Outcome (List Letter)) → Bounds.Bounded (length tape) o → Bounded (Fits tape room) 11 o
+    own short enough (accepted ls) b = record { few = b; short = short; enough = enough }
+    own short enough (refused number place) b =
+        let most = b .most in
+        let on = b .on in
+        record { least = b .least; greatest = omega arith; near = omega arith }
 
 -- with lengths that are admitted, only the tape decides
 pub read-is : (s : Style) (room : ℕ) (tape : List ℕ) → length tape ≤ mostBytes → leastRoom ≤ room → tapeRead s room tape ≡ tapeLetters s tape
 unfolding tapeRead
 read-is s room tape short enough = rw (le-ltb mostBytes (length tape) short, le-ltb room leastRoom enough)
 
--- ---- the answers
+-- n letters were read
+abbrev pub Read : List ℕ → List ℕ → List ℕ → Style → ℕ → Type 0
+Read tape ws ws' s n = Accepts (tapeRead s (length ws) tape) length (λ ls. nothing) (λ ls. ws' ≡ stored ws 0 ls) nothing n
 
-module _ {tape ws ws' : List ℕ} {s : Style} {r : Answer} (w : TapeRead tape ws ws' s r) where
-  abbrev reading : Outcome (List Letter)
-  reading = tapeRead s (length ws) tape
+pub letters-fit : (s : Style) (tape ws : List ℕ) {ws' : List ℕ} {n : ℕ} (a : Read tape ws ws' s n) → Fits tape (length ws) (a .given)
+letters-fit s tape ws a = rw (a .means) at (fits s (length ws) tape)
 
-  pub letters-are : {n : ℕ} → r ≡ Answer.Letters n → Accepted tape ws ws' s n
-  letters-are {n} is = go reading refl (sym is ∙ w .answers) (w .leaves) (fits s (length ws) tape)
-    where
-      go : (o : Outcome (List Letter)) → reading ≡ o → Answer.Letters n ≡ answerOf o → Left o ws ws' → Fits tape (length ws) o
-          → Accepted tape ws ws' s n
-      go (accepted ls) e a l f =
-          let count : n ≡ length ls = cc in
-          let few = f .0 in
-          record { letters = ls; means = e; count = count; few = omega arith; short = f .1; room = f .2; holds = l }
-      go (refused number place) e a l f = let z : _≡_ {A = ℕ} 0 1 = cc in absurd (omega arith)
-
-  pub refusal-is : {number place : ℕ} → r ≡ Answer.Refused number place → Refused tape ws ws' s number place
-  refusal-is {number} {place} is = go reading refl (sym is ∙ w .answers) (w .leaves) (fits s (length ws) tape)
-    where
-      go : (o : Outcome (List Letter)) → reading ≡ o → Answer.Refused number place ≡ answerOf o → Left o ws ws' → Fits tape (length ws) o
-          → Refused tape ws ws' s number place
-      go (accepted ls) e a l f = let z : _≡_ {A = ℕ} 0 1 = cc in absurd (omega arith)
-      go (refused k p) e a l f =
-          let same : k ≡ number = cc in
-          let there : p ≡ place = cc in
-          let most = f .0 in
-          let on = f .1 in
-          let near = f .2 in
-          record { means = rw (← same, ← there) e; most = omega arith; on = omega arith; near = omega arith; keeps = λ h. l (f .3 (rw same h)) }
+-- the answer goes into one number
+pub read-packs : (s : Style) (tape ws : List ℕ) {ws' : List ℕ} {r : Answer} → TapeRead tape ws ws' s r → Packs r
+read-packs s tape ws w =
+    let o = tapeRead s (length ws) tape in
+    packs length 11 o (weaken (Fits tape (length ws)) 11 (λ ls. length ls < 2 ^ 32) 11 (omega arith) small o (fits s (length ws) tape)) (w .answers)
+  where
+    small : (ls : List Letter) → Fits tape (length ws) ls → length ls < 2 ^ 32
+    small ls f = let few = f .few in omega arith

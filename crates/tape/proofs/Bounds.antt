@@ -7,10 +7,10 @@ use native.Mathlib.Omega.{arith}
 use lib.Dec.{lit≤}
 use lib.ListN.{length, length-append}
 use Rattle.tape.specs.declared.Style.{Style}
-use Rattle.tape.specs.Outcome.{Outcome, accepted, refused, onAccepted}
+use Rattle.tape.specs.Outcome.{Outcome, accepted, refused, onAccepted, unless}
 use Rattle.tape.specs.Command.{mostLetters, width, added, faultOf, commandOf}
 use Rattle.tape.specs.Runs.{Run, merge, Letter, lettersOf}
-use Rattle.tape.specs.Tape.{Frame, frame, says, next, atEnd, after, unless, read, tapeRuns, tapeLetters}
+use Rattle.tape.specs.Tape.{Frame, frame, says, next, atEnd, after, read, tapeRuns, tapeLetters}
 use Rattle.tape.specs.Marks.{Last, last, lastAfter, marked}
 use Rattle.tape.proofs.Commands.{says-added}
 use Rattle.tape.proofs.Faults.{clean, fault-most}

@@ -7,7 +7,8 @@ use native.Mathlib.Omega.{arith}
 use lib.ListN.{length, drop, getD, List·getD-append}
 use lib.Seq.{getD-append-add, sets-eq}
 use Rattle.tape.specs.Runs.{Letter}
-use Rattle.tape.specs.Stored.{cellOf, cells, stored, letterByte, codeAt, odd, letterAt}
+use Rattle.tape.specs.TapeRead.{cellOf, cells, stored}
+use Rattle.tape.specs.Stored.{letterByte, codeAt, odd, letterAt}
 use Rattle.tape.proofs.Stores.{length-cells}
 
 abbrev bytesOf : Letter → List ℕ

@@ -9,10 +9,11 @@ pub mod Leaves
 pub mod Short
 pub mod Marked
 pub mod Bounds
+pub mod Calls
+pub mod Answers
 pub mod Whole
 pub mod Alike
 pub mod Written
 pub mod Letters
 pub mod Bytes
 pub mod Cases
-pub mod Answers

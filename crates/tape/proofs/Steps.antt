@@ -10,10 +10,10 @@ use lib.Dec.{eqb}
 use lib.ListN.{length, drop, getD, drop-of-length-le}
 use lib.Seq.{drop-cons, drop-drop}
 use Rattle.tape.specs.declared.Style.{Style}
-use Rattle.tape.specs.Outcome.{Outcome, accepted, refused}
+use Rattle.tape.specs.Outcome.{Outcome, accepted, refused, unless}
 use Rattle.tape.specs.Command.{width, added, faultOf, Command, commandOf}
 use Rattle.tape.specs.Runs.{Run}
-use Rattle.tape.specs.Tape.{Frame, frame, says, next, atEnd, after, unless, read}
+use Rattle.tape.specs.Tape.{Frame, frame, says, next, atEnd, after, read}
 use Rattle.tape.specs.Reading.{from}
 use Rattle.tape.proofs.Faults.{clean}
 

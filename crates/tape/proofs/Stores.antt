@@ -10,7 +10,7 @@ use Rattle.tape.specs.declared.Style.{Style}
 use Rattle.tape.specs.declared.State.{State}
 use Rattle.tape.specs.Runs.{Run, run, Letter, lettersIn}
 use Rattle.tape.specs.Marks.{Last, starts, lastWith, lastAfter, marked}
-use Rattle.tape.specs.Stored.{cellOf, cells, stored}
+use Rattle.tape.specs.TapeRead.{cellOf, cells, stored}
 use Rattle.tape.specs.Reading.{lastOf, wrote, holding, Wrote}
 use Rattle.tape.proofs.Styles.{same-refl}
 

@@ -16,7 +16,7 @@ use Rattle.tape.specs.Command.{mostLetters, added, faultOf, Command, com
 use Rattle.tape.specs.Runs.{Run}
 use Rattle.tape.specs.Tape.{Frame, frame, says, next, after}
 use Rattle.tape.specs.Marks.{marked}
-use Rattle.tape.specs.Stored.{cells}
+use Rattle.tape.specs.TapeRead.{cells}
 use Rattle.tape.specs.Reading.{lastOf, within, past, Wrote, byteOf, restOf, placeAfter, Sound, Went, Stopped, Reads, Onward, from}
 use Rattle.tape.proofs.Commands.{says-added}
 use Rattle.tape.proofs.Faults.{Clean, clean}

@@ -14,43 +14,25 @@ use Rattle.tape.specs.Outcome.{Outcome, accepted, refused, onAccepted}
 use Rattle.tape.specs.Runs.{Run, merge, Letter, lettersOf}
 use Rattle.tape.specs.Tape.{mostBytes, leastRoom, after, tapeRuns, tapeLetters, tapeRead}
 use Rattle.tape.specs.Marks.{last, marked}
-use Rattle.tape.specs.Stored.{stored}
-use Rattle.tape.specs.Reading.{within, past, Went, Stopped, from, answerOf, Left, TapeRead}
+use Rattle.tape.specs.TapeRead.{TapeRead}
+use Rattle.tape.specs.Reading.{within, past, Went, Stopped, from}
 use Rattle.tape.proofs.Marked.{marked-merged}
 use Rattle.tape.proofs.Bounds.{Bounded, letters-bounded}
+use Rattle.tape.proofs.Calls.{refuses, accepts, keeps-least}
+use Rattle.tape.proofs.Answers.{read-is}
 use Rattle.tape.proofs.Steps.{end-from}
 
 pub too-long : (tape ws : List ℕ) (s : Style) → mostBytes < length tape → TapeRead tape ws ws s (Answer.Refused 10 0)
 unfolding tapeRead
-too-long tape ws s h =
-    let e = lt-ltb mostBytes (length tape) h in
-    record { answers = rw e; leaves = rw e (λ k. refl) }
+too-long tape ws s h = refuses (rw (lt-ltb mostBytes (length tape) h)) (λ k. refl)
 
 pub too-small : (tape ws : List ℕ) (s : Style) → length tape ≤ mostBytes → length ws < leastRoom
     → TapeRead tape ws ws s (Answer.Refused 11 0)
 unfolding tapeRead
-too-small tape ws s h k =
-    let e = le-ltb mostBytes (length tape) h in
-    let f = lt-ltb (length ws) leastRoom k in
-    record { answers = rw (e, f); leaves = rw (e, f) (λ n. refl) }
-
--- where both lengths are admitted, the call comes to what the tape means
-pub fitting : (tape ws : List ℕ) (s : Style) → length tape ≤ mostBytes → leastRoom ≤ length ws
-    → tapeRead s (length ws) tape ≡ tapeLetters s tape
-unfolding tapeRead
-fitting tape ws s h k = rw (le-ltb mostBytes (length tape) h, le-ltb (length ws) leastRoom k)
+too-small tape ws s h k = refuses (rw (le-ltb mostBytes (length tape) h, lt-ltb (length ws) leastRoom k)) (λ n. refl)
 
 abbrev pub start : Style → State
 start s = record { at = 0; count = 0; last = s; fresh = true }
-
--- what an outcome says of answer and workspace
-told : (tape ws ws' : List ℕ) (s : Style) (o : Outcome (List Letter)) → length tape ≤ mostBytes → leastRoom ≤ length ws
-    → tapeLetters s tape ≡ o
-    → Left o ws ws'
-    → TapeRead tape ws ws' s (answerOf o)
-told tape ws ws' s o h k e l =
-    let w : tapeRead s (length ws) tape ≡ o = fitting tape ws s h k ∙ e in
-    record { answers = rw w; leaves = rw w l }
 
 module _ (tape ws ws' : List ℕ) (s : Style) (h : length tape ≤ mostBytes) (k : leastRoom ≤ length ws) where
   unfolds : tapeLetters s tape ≡ onAccepted lettersOf (onAccepted merge (from tape (within s false []) 0 0))
@@ -62,10 +44,10 @@ module _ (tape ws ws' : List ℕ) (s : Style) (h : length tape ≤ mostBytes) (k
   tape-refused number place f =
       let e : tapeLetters s tape ≡ refused number place = unfolds ∙ ap (λ (o : Outcome (List Run)). onAccepted lettersOf (onAccepted merge o)) (f [] refl) in
       let own = subst (λ (o : Outcome (List Letter)). Bounded (length tape) o) e (letters-bounded s tape) in
-      told tape ws ws' s (refused number place) h k e (λ ten. let most = own .most in absurd (omega arith))
+      refuses (read-is s (length ws) tape h k ∙ e) (λ kept. let most = own .most in let least = keeps-least number kept in absurd (omega arith))
 
   pub tape-accepted : (end : State) → Went tape ws ws' 0 (within s false) (past s false) (start s) end → length tape ≤ end .at
-      → TapeRead tape ws ws' s (Answer.Letters (end .count))
+      → TapeRead tape ws ws' s (Answer.Accepted (end .count))
   tape-accepted end w g =
       let ls : List Letter = marked (last s true) (w .runs) in
       let rs : from tape (within s false []) 0 0 ≡ accepted (w .runs) =
@@ -73,4 +55,4 @@ module _ (tape ws ws' : List ℕ) (s : Style) (h : length tape ≤ mostBytes) (k
       let e : tapeLetters s tape ≡ accepted ls =
       unfolds ∙ ap (λ (o : Outcome (List Run)). onAccepted lettersOf (onAccepted merge o)) rs ∙ ap accepted (sym (marked-merged s (w .runs))) in
       let n : end .count ≡ length ls = ap (λ (x : State). x .count) (w .stored .state) ∙ zero-add (length ls) in
-      rw n (told tape ws ws' s (accepted ls) h k e (w .stored .bytes))
+      accepts (read-is s (length ws) tape h k ∙ e) n refl (w .stored .bytes)

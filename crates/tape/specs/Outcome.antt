@@ -1,6 +1,6 @@
 -- What reading or a call comes to: document 01, "Who is stopped, and by what". Definitions only.
 use mathlib.Core.Bool.{Bool, true, false}
-use Prim.Native.Nat.{ℕ}
+use Prim.Native.Nat.{ℕ, zero, suc}
 
 -- something, or a refusal: its number and its place
 pub data Outcome (A : Type 0) : Type 0 where
@@ -12,6 +12,11 @@ module _ {A : Type 0} where
   abbrev pub refuseIf : Bool → ℕ → ℕ → Outcome A → Outcome A
   refuseIf true number place o = refused number place
   refuseIf false number place o = o
+
+  -- a refusal where its number is not 0, else what comes after it
+  abbrev pub unless : ℕ → ℕ → Outcome A → Outcome A
+  unless zero place o = o
+  unless (suc k) place o = refused (suc k) place
 
   -- f of what is accepted; a refusal stays
   abbrev pub onAccepted : {B : Type 0} → (A → B) → Outcome A → Outcome B

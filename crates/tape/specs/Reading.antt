@@ -9,13 +9,12 @@ use Rattle.tape.specs.declared.Style.{Style}
 use Rattle.tape.specs.declared.State.{State}
 use Rattle.tape.specs.declared.Step.{Step}
 use Rattle.tape.specs.declared.Step.the-variants.{Done, Refused}
-use Rattle.tape.specs.declared.Answer.{Answer}
 use Rattle.tape.specs.Outcome.{Outcome, accepted, refused}
 use Rattle.tape.specs.Command.{mostLetters, width, codePoint, isLetter, isOpener, isScalar, added, faultOf, Command, ends, commandOf}
-use Rattle.tape.specs.Runs.{Run, Letter}
-use Rattle.tape.specs.Tape.{Frame, frame, says, next, after, read, tapeRead}
+use Rattle.tape.specs.Runs.{Run}
+use Rattle.tape.specs.Tape.{Frame, frame, says, next, after, read}
 use Rattle.tape.specs.Marks.{Last, last, lastAfter, marked}
-use Rattle.tape.specs.Stored.{stored}
+use Rattle.tape.specs.TapeRead.{stored}
 
 -- ---- what has been stored
 
@@ -154,20 +153,3 @@ SegmentRead tape ws ws' name depth a s r = Reads tape ws ws' depth (within s nam
 
 abbrev pub ListRead : List ℕ → List ℕ → List ℕ → Bool → ℕ → State → Style → Step → Type 0
 ListRead tape ws ws' name depth a s r = Reads tape ws ws' depth (within s name) (past s name) a r × ToTheEnd tape name depth r
-
--- ---- the call
-
--- the answer that says an outcome: how many letters there are, or the refusal's number and place
-abbrev pub answerOf : Outcome (List Letter) → Answer
-answerOf (accepted ls) = Answer.Letters (length ls)
-answerOf (refused number place) = Answer.Refused number place
-
--- what the workspace is afterwards: it begins with the letters and is as it was behind them; after 10 and 11 it is as it was;
--- after the tape's own refusals its contents are free
-abbrev pub Left : Outcome (List Letter) → List ℕ → List ℕ → Type 0
-Left (accepted ls) ws ws' = ws' ≡ stored ws 0 ls
-Left (refused number place) ws ws' = 10 ≤ number → ws' ≡ ws
-
-pub record TapeRead (tape ws ws' : List ℕ) (s : Style) (answer : Answer) : Type 0 where
-  pub answers : answer ≡ answerOf (tapeRead s (length ws) tape)
-  pub leaves : Left (tapeRead s (length ws) tape) ws ws'

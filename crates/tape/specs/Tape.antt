@@ -9,7 +9,7 @@ use Prim.Native.Nat.{ℕ, zero, suc, _+_}
 use lib.Dec.{ltb}
 use lib.ListN.{length}
 use Rattle.tape.specs.declared.Style.{Style}
-use Rattle.tape.specs.Outcome.{Outcome, accepted, refused, refuseIf, onAccepted}
+use Rattle.tape.specs.Outcome.{Outcome, accepted, refused, refuseIf, unless, onAccepted}
 use Rattle.tape.specs.Style.{inside}
 use Rattle.tape.specs.Command.{width, added, faultOf, Command, ends, text, opens, voice, timestamp, commandOf}
 use Rattle.tape.specs.Runs.{Run, run, merge, Letter, lettersOf}
@@ -54,11 +54,6 @@ atEnd (s ∷ around) name place = refused 3 place
 -- runs, and then what follows them
 abbrev pub after : List Run → Outcome (List Run) → Outcome (List Run)
 after rs o = onAccepted (λ qs. rs ++ qs) o
-
--- a fault, where its number is not 0, or what follows
-abbrev pub unless : ℕ → ℕ → Outcome (List Run) → Outcome (List Run)
-unless zero place o = o
-unless (suc k) place o = refused (suc k) place
 
 -- What the rest of a tape means: the bytes from a place on, counted from the tape's start, with n letters before it. Its first `skip` bytes are
 -- operands of the command before it, and are passed over.

@@ -5,7 +5,8 @@ ghost use mathlib.Core.Bool.{cond};
 ghost use Prim.Native.Nat.{_+_, _*_, _/_, _≤_, _<_};
 ghost use lib.ListN.{length};
 ghost use lib.Seq.{sets};
-ghost use Rattle.tape.specs.Stored.{flagsOf, cellOf, letterByte, codeAt, odd, styleAt};
+ghost use Rattle.tape.specs.TapeRead.{flagsOf, cellOf};
+ghost use Rattle.tape.specs.Stored.{letterByte, codeAt, odd, styleAt};
 use crate::Style;
 use crate::wide;
 

@@ -14,7 +14,10 @@ ghost use Rattle.tape.specs.Command.{added, ends};
 ghost use Rattle.tape.specs.Runs.{run};
 ghost use Rattle.tape.specs.Tape.{says};
 ghost use Rattle.tape.specs.Marks.{starts};
-ghost use Rattle.tape.specs.Reading.{lastOf, wrote, Wrote, TapeRead};
+ghost use Rattle.tape.specs.TapeRead.{TapeRead};
+ghost use Rattle.tape.specs.Packed.{packed};
+ghost use Rattle.tape.specs.Reading.{lastOf, wrote, Wrote};
+ghost use Rattle.tape.specs.Near.{Near};
 
 // The most bytes of a tape, and the least of a workspace.
 pub const MOST_BYTES: usize = 16384;
@@ -151,12 +154,25 @@ enum Step {
     Refused(u8, usize),
 }
 
-// What the tape comes to.
+// What a call answers.
 pub enum Answer {
-    // How many letters the workspace holds.
-    Letters(usize),
+    // How many letters, lines or strokes there are, or were drawn.
+    Accepted(usize),
     // A refusal's number and place.
     Refused(u8, usize),
+}
+
+impl Answer {
+    // As one number: itself, or the refusal's number times 2^32 and its place.
+    pub fn packed(self) -> u64
+        requires { ⌜ Near self ⌝ }
+        ensures { λ r. ⌜ r ≡ packed self ⌝ }
+    {
+        match self {
+            Answer::Accepted(n) => n as u64,
+            Answer::Refused(number, place) => number as u64 * 0x1_0000_0000 + place as u64,
+        }
+    }
 }
 
 // Reads a whole tape; `style` is that of its outer list. The workspace then begins with the letters.
@@ -176,7 +192,7 @@ pub fn read_tape(tape: &[u8], ws: &mut [u8], style: Style) -> Answer
         fresh: true,
     };
     match reader::read_list(tape, ws, start, style, false, 0) {
-        Step::Done(end) => Answer::Letters(end.count),
+        Step::Done(end) => Answer::Accepted(end.count),
         Step::Refused(number, place) => Answer::Refused(number, place),
     }
 }

@@ -1,7 +1,6 @@
 // The tape's reader for callers in C and Rust: what `host/` compares with the original, letter by
 // letter. The captions themselves have an interface of their own.
 ghost use Rattle.tape_c.specs.Exported.{Answered};
-use tape::Answer;
 use tape::Style;
 
 // Reads a tape into a workspace; `color` is the red, green, blue and alpha of the tape's outer list.
@@ -11,8 +10,5 @@ use tape::Style;
 pub extern "C" fn tape_letters(tape: &[u8], workspace: &mut [u8], color: &[u8; 4]) -> u64
     ensures { λ r. ⌜ Answered (now (tape .entry)) (now (workspace .entry)) (now (workspace .exit)) (now (color .entry)) r ⌝ }
 {
-    match tape::read_tape(tape, workspace, Style::default_with(*color)) {
-        Answer::Letters(count) => count as u64,
-        Answer::Refused(number, place) => number as u64 * 0x1_0000_0000 + place as u64,
-    }
+    tape::read_tape(tape, workspace, Style::default_with(*color)).packed()
 }

@@ -1,86 +1,54 @@
--- For the layers above: what each answer of the call tells.
-use mathlib.Core.Path.{_≡_, _∙_, refl, sym}
-use mathlib.Core.Bool.{Bool, true, false, _||_}
+-- For the layers above: how far the call's outcome goes, and what is known of lines that were made.
+use mathlib.Core.Path.{_≡_}
+use mathlib.Core.Bool.{_||_}
 use mathlib.Core.List.{List}
-use Prim.Native.Nat.{ℕ, _+_, _≤_}
+use Prim.Native.Nat.{ℕ, _+_, _≤_, _<_, _^_}
 use native.Mathlib.Omega.{arith}
 use borrow.Author.Tests.{ltb-false}
 use lib.Dec.{lit≤, ltb}
-use lib.ListN.{length, take, replicate}
-use Rattle.tape.specs.Outcome.{Outcome, accepted, refused, refuseIf, onAccepted}
+use lib.ListN.{length}
+use Rattle.tape.specs.declared.Answer.{Answer}
+use Rattle.tape.specs.Outcome.{Outcome, accepted, refused, onAccepted}
 use Rattle.tape.specs.Command.{mostLetters}
 use Rattle.tape.specs.Runs.{Letter}
-use Rattle.tape.specs.Style.{defaultWith}
-use Rattle.tape.specs.Tape.{mostBytes, leastRoom, tapeRead}
+use Rattle.tape.specs.Tape.{leastRoom, tapeRead}
 use Rattle.tape.proofs.Answers.{Fits, fits}
-use Rattle.wrap.specs.declared.Answer.{Answer}
-use Rattle.wrap.specs.Wrap.{Caption, mostColumns, captionOf, wrapCall, lineBytes}
-use Rattle.wrap.specs.Wrapped.{answerOf, Left, Wrapped}
+use Rattle.tape.proofs.Calls.{Bounded, refuse-bounded, weaken, accepted-is, Packs, packs}
+use Rattle.wrap.specs.Wrap.{Caption, mostColumns, captionOf, wrapCall}
+use Rattle.wrap.specs.Wrapped.{Wrapped}
 use Rattle.wrap.proofs.Few.{few-lines}
+use Rattle.wrap.proofs.Whole.{or-none, white}
 
--- there are so many lines, and the workspace begins with them
-pub record Accepted (tape ws ws' : List ℕ) (limit lines : ℕ) : Type 0 where
-  pub caption : Caption
-  pub means : wrapCall limit (length ws) tape ≡ accepted caption
-  pub count : lines ≡ length (caption .lines)
-  pub few : lines ≤ mostLetters + 1
-  pub room : leastRoom ≤ length ws
-  pub begins : take (length (lineBytes caption)) ws' ≡ lineBytes caption
+-- a caption that was wrapped in a workspace of `room` bytes
+pub record Small (room : ℕ) (c : Caption) : Type 0 where
+  pub few : length (c .lines) ≤ mostLetters + 1
+  pub enough : leastRoom ≤ room
 
--- the number is at most 11, and the place as far as a tape may go
-pub record Refused (tape ws ws' : List ℕ) (limit number place : ℕ) : Type 0 where
-  pub means : wrapCall limit (length ws) tape ≡ refused number place
-  pub most : number ≤ 11
-  pub near : place ≤ mostBytes
-  pub keeps : 8 ≤ number → ws' ≡ ws
-
--- ---- bounds of the call
-
-abbrev Bounded : ℕ → Outcome Caption → Type 0
-Bounded room (accepted c) = (length (c .lines) ≤ mostLetters + 1) × (leastRoom ≤ room)
-Bounded room (refused number place) = (number ≤ 11) × (place ≤ mostBytes)
-
-bounded : (limit room : ℕ) (tape : List ℕ) → Bounded room (wrapCall limit room tape)
+pub wrap-bounded : (limit room : ℕ) (tape : List ℕ) → Bounded (Small room) 11 (wrapCall limit room tape)
 unfolding wrapCall
-bounded limit room tape = test (ltb limit 1) refl (ltb mostColumns limit)
+wrap-bounded limit room tape =
+    refuse-bounded (Small room) 11 (ltb limit 1 || ltb mostColumns limit) 8 _ (lit≤ tt) (lit≤ tt)
+    (λ e. own (ltb-false limit 1 (or-none (ltb limit 1) (ltb mostColumns limit) e .0)) (tapeRead white room tape) (fits white room tape))
   where
-    own : (o : Outcome (List Letter)) → Fits tape room o → 1 ≤ limit → Bounded room (onAccepted (captionOf limit) o)
-    own (accepted ls) f one = let n = few-lines ls limit one in let few = f .0 in (omega arith, f .2)
-    own (refused number place) f one = (f .0, f .2)
+    own : 1 ≤ limit → (o : Outcome (List Letter)) → Bounded (Fits tape room) 11 o → Bounded (Small room) 11 (onAccepted (captionOf limit) o)
+    own one (accepted ls) f = let n = few-lines ls limit one in let few = f .few in record { few = omega arith; enough = f .enough }
+    own one (refused number place) f = f
 
-    test : (low : Bool) → ltb limit 1 ≡ low → (high : Bool)
-        → Bounded room (refuseIf (low || high) 8 0 (onAccepted (captionOf limit) (tapeRead (defaultWith (replicate 4 0xff)) room tape)))
-    test true e high = (lit≤ tt, lit≤ tt)
-    test false e true = (lit≤ tt, lit≤ tt)
-    test false e false =
-        own (tapeRead (defaultWith (replicate 4 0xff)) room tape) (fits (defaultWith (replicate 4 0xff)) room tape) (ltb-false limit 1 e)
+-- so many lines were made
+pub lines-fit : (tape ws : List ℕ) {ws' : List ℕ} (limit : ℕ) {r : Answer} → Wrapped tape ws ws' limit r → {lines : ℕ} → r ≡ Answer.Accepted lines
+    → (lines ≤ mostLetters + 1) × (leastRoom ≤ length ws)
+lines-fit tape ws limit w e =
+    let a = accepted-is w e in
+    let small : Small (length ws) (a .given) = rw (a .means) at (wrap-bounded limit (length ws) tape) in
+    let few = small .few in
+    let count = a .counts in
+    (omega arith, small .enough)
 
--- ---- the answers
-
-module _ {tape ws ws' : List ℕ} {limit : ℕ} {r : Answer} (w : Wrapped tape ws ws' limit r) where
-  abbrev call : Outcome Caption
-  call = wrapCall limit (length ws) tape
-
-  pub lines-are : {lines : ℕ} → r ≡ Answer.Lines lines → Accepted tape ws ws' limit lines
-  lines-are {lines} is = go call refl (sym is ∙ w .answers) (w .leaves) (bounded limit (length ws) tape)
-    where
-      go : (o : Outcome Caption) → call ≡ o → Answer.Lines lines ≡ answerOf o → Left o ws ws' → Bounded (length ws) o
-          → Accepted tape ws ws' limit lines
-      go (accepted c) e a l b =
-          let count : lines ≡ length (c .lines) = cc in
-          let few = b .0 in
-          record { caption = c; means = e; count = count; few = omega arith; room = b .1; begins = l }
-      go (refused number place) e a l b = let z : _≡_ {A = ℕ} 0 1 = cc in absurd (omega arith)
-
-  pub refusal-is : {number place : ℕ} → r ≡ Answer.Refused number place → Refused tape ws ws' limit number place
-  refusal-is {number} {place} is = go call refl (sym is ∙ w .answers) (w .leaves) (bounded limit (length ws) tape)
-    where
-      go : (o : Outcome Caption) → call ≡ o → Answer.Refused number place ≡ answerOf o → Left o ws ws' → Bounded (length ws) o
-          → Refused tape ws ws' limit number place
-      go (accepted c) e a l b = let z : _≡_ {A = ℕ} 0 1 = cc in absurd (omega arith)
-      go (refused k p) e a l b =
-          let same : k ≡ number = cc in
-          let there : p ≡ place = cc in
-          let most = b .0 in
-          let near = b .1 in
-          record { means = rw (← same, ← there) e; most = omega arith; near = omega arith; keeps = λ h. l (rw same h) }
+-- the answer goes into one number
+pub wrap-packs : (tape ws : List ℕ) {ws' : List ℕ} (limit : ℕ) {r : Answer} → Wrapped tape ws ws' limit r → Packs r
+wrap-packs tape ws limit w =
+    let o = wrapCall limit (length ws) tape in
+    packs (λ c. length (c .lines)) 11 o (weaken (Small (length ws)) 11 (λ c. length (c .lines) < 2 ^ 32) 11 (omega arith) small o (wrap-bounded limit (length ws) tape)) (w .answers)
+  where
+    small : (c : Caption) → Small (length ws) c → length (c .lines) < 2 ^ 32
+    small c s = let few = s .few in omega arith

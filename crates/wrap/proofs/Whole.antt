@@ -1,5 +1,6 @@
 -- All lines: where they lie, and then at the workspace's front; and what the call comes to.
 use mathlib.Core.Path.{_≡_, _∙_, refl, sym, ap, ap₂, subst}
+use mathlib.Core.Bool.{Bool, true, false, _||_, true≢false}
 use mathlib.Core.List.{List, [], _++_, flatten, append-nil}
 use Prim.Native.Nat.{ℕ, _+_, _*_, _≤_, _<_}
 use native.Mathlib.Omega.{arith}
@@ -7,21 +8,23 @@ use borrow.Author.Tests.{lt-ltb, le-ltb}
 use lib.ListN.{length, take, replicate, length-append}
 use lib.Seq.{sets, slice}
 use Rattle.tape.specs.declared.Style.{Style}
+use Rattle.tape.specs.declared.Answer.{Answer}
 use Rattle.tape.specs.Command.{mostLetters}
+use Rattle.tape.specs.Call.{nothing}
 use Rattle.tape.specs.Runs.{Letter}
 use Rattle.tape.specs.Style.{defaultWith}
-use Rattle.tape.specs.Outcome.{Outcome, accepted, refused, onAccepted}
+use Rattle.tape.specs.Outcome.{Outcome, onAccepted}
 use Rattle.tape.specs.Tape.{leastRoom, tapeRead}
-use Rattle.tape.proofs.Answers.{Accepted, Refused}
+use Rattle.tape.proofs.Answers.{Read, letters-fit}
+use Rattle.tape.proofs.Calls.{Refuses, refuses, accepts}
 use Rattle.tape.proofs.Letters.{letter-is}
 use Rattle.wrap.specs.declared.line.Cursor.{Cursor}
 use Rattle.wrap.specs.declared.Lines.{Lines}
-use Rattle.wrap.specs.declared.Answer.{Answer}
 use Rattle.wrap.specs.Lines.{Line, Filling, upFrom, noLetter, withoutLast, logicalLines, noLines, filled, isEmptyLine, wrapRuns}
-use Rattle.wrap.specs.Wrap.{mostColumns, Caption, captionOf, wrapCall, twos, lineTable}
+use Rattle.wrap.specs.Wrap.{mostColumns, captionOf, wrapCall, twos, lineTable}
 use Rattle.wrap.specs.Laid.{numbersFrom, tableFrom, Holds, Laid, Brought}
 use Rattle.wrap.specs.Filled.{done, Held}
-use Rattle.wrap.specs.Wrapped.{answerOf, Left, Wrapped}
+use Rattle.wrap.specs.Wrapped.{Wrapped}
 use Rattle.wrap.proofs.Lists.{last-front, last-short, last-all}
 use Rattle.wrap.proofs.Shown.{fill-ended}
 use Rattle.wrap.proofs.Bytes.{length-twos, length-table, take-table, slice-after, slice-less, front-two}
@@ -108,46 +111,43 @@ module _ (ls : List Letter) (limit : ℕ) (made : Lines) (ws : List ℕ) (laid :
 
 -- ---- the call
 
-abbrev white : Style
-white = defaultWith (replicate 4 0xff)
+pub or-none : (a b : Bool) → (a || b) ≡ false → (a ≡ false) × (b ≡ false)
+or-none true b e = absurd (true≢false e)
+or-none false b e = (refl, e)
 
-module _ {tape ws ws' : List ℕ} {limit : ℕ} where
-  -- an outcome that the call comes to
-  comes-to : (o : Outcome Caption) → wrapCall limit (length ws) tape ≡ o → Left o ws ws' → Wrapped tape ws ws' limit (answerOf o)
-  comes-to o e l = record { answers = ap answerOf (sym e); leaves = subst (λ (x : Outcome Caption). Left x ws ws') (sym e) l }
+abbrev pub white : Style
+white = defaultWith (replicate 4 0xff)
 
 module _ (tape ws : List ℕ) (limit : ℕ) where
   pub too-low : limit < 1 → Wrapped tape ws ws limit (Answer.Refused 8 0)
   unfolding wrapCall
-  too-low h = comes-to (refused 8 0) (rw (lt-ltb limit 1 h)) (λ _. refl)
+  too-low h = refuses (rw (lt-ltb limit 1 h)) (λ _. refl)
 
   pub too-high : 1 ≤ limit → mostColumns < limit → Wrapped tape ws ws limit (Answer.Refused 8 0)
   unfolding wrapCall
-  too-high low h = comes-to (refused 8 0) (rw (le-ltb limit 1 low, lt-ltb mostColumns limit h)) (λ _. refl)
+  too-high low h = refuses (rw (le-ltb limit 1 low, lt-ltb mostColumns limit h)) (λ _. refl)
 
   module _ (low : 1 ≤ limit) (high : limit ≤ mostColumns) where
-    admitted : wrapCall limit (length ws) tape ≡ onAccepted (captionOf limit) (tapeRead white (length ws) tape)
+    admitted : {o : Outcome (List Letter)} → tapeRead white (length ws) tape ≡ o → wrapCall limit (length ws) tape ≡ onAccepted (captionOf limit) o
     unfolding wrapCall
-    admitted = rw (le-ltb limit 1 low, le-ltb mostColumns limit high)
+    admitted e = rw (le-ltb limit 1 low, le-ltb mostColumns limit high, e)
 
-    pub tape-refused : {ws' : List ℕ} {number place : ℕ} → Refused tape ws ws' white number place
+    pub tape-refused : {ws' : List ℕ} {number place : ℕ} → Refuses (tapeRead white (length ws) tape) nothing nothing ws ws' number place
         → Wrapped tape ws ws' limit (Answer.Refused number place)
-    tape-refused {number = number} {place} refusal =
-        comes-to (refused number place) (admitted ∙ ap (onAccepted (captionOf limit)) (refusal .means)) (refusal .keeps)
+    tape-refused r = refuses (admitted (r .means)) (r .keeps)
 
-    pub wrapped : {ws1 : List ℕ} {n : ℕ} (a : Accepted tape ws ws1 white n) (lines : ℕ) (ws' : List ℕ) → Brought (a .letters) limit lines ws'
-        → Wrapped tape ws ws' limit (Answer.Lines lines)
-    wrapped a lines ws' b =
-        subst (λ (x : ℕ). Wrapped tape ws ws' limit (Answer.Lines x)) (sym (b .count))
-        (comes-to (accepted (captionOf limit (a .letters))) (admitted ∙ ap (onAccepted (captionOf limit)) (a .means)) (b .bytes))
+    pub wrapped : {ws1 : List ℕ} {n : ℕ} (a : Read tape ws ws1 white n) (lines : ℕ) (ws' : List ℕ) → Brought (a .given) limit lines ws'
+        → Wrapped tape ws ws' limit (Answer.Accepted lines)
+    wrapped a lines ws' b = accepts (admitted (a .means)) (b .count) refl (b .bytes)
 
 -- the workspace holds the letters that were read
-pub letters-held : {tape ws ws' : List ℕ} {s : Style} {n : ℕ} (a : Accepted tape ws ws' s n) → Holds (a .letters) ws'
-letters-held {ws = ws} a =
-    let n = a .count in
-    let few = a .few in
-    let room = a .room in
+pub letters-held : (s : Style) (tape ws : List ℕ) {ws' : List ℕ} {n : ℕ} (a : Read tape ws ws' s n) → Holds (a .given) ws'
+letters-held s tape ws a =
+    let n = a .counts in
+    let fit = letters-fit s tape ws a in
+    let few = fit .few in
+    let room = fit .enough in
     record {
-      few = omega arith;
-      letter = λ k h. rw (a .holds) (sym (letter-is ws (a .letters) (omega arith) noLetter k h));
+      few = few;
+      letter = λ k h. rw (a .holds) (sym (letter-is ws (a .given) (omega arith) noLetter k h));
     }

@@ -1,24 +1,14 @@
 -- THE CONTRACT OF WRAP: what a call answers and what it leaves, for every input.
 use mathlib.Core.Path.{_≡_}
 use mathlib.Core.List.{List}
-use Prim.Native.Nat.{ℕ, _≤_}
+use Prim.Native.Nat.{ℕ}
 use lib.ListN.{length, take}
-use Rattle.tape.specs.Outcome.{Outcome, accepted, refused}
-use Rattle.wrap.specs.declared.Answer.{Answer}
-use Rattle.wrap.specs.Wrap.{Caption, wrapCall, lineBytes}
+use Rattle.tape.specs.declared.Answer.{Answer}
+use Rattle.tape.specs.Call.{nothing, Came}
+use Rattle.wrap.specs.Wrap.{wrapCall, lineBytes}
 
--- the answer that says an outcome: how many lines there are, or the refusal's number and place
-abbrev pub answerOf : Outcome Caption → Answer
-answerOf (accepted c) = Answer.Lines (length (c .lines))
-answerOf (refused number place) = Answer.Refused number place
-
--- what the workspace is afterwards: it begins with the lines; after 8, 10 and 11 it is as it was; after the tape's own refusals
--- its contents are free
-abbrev pub Left : Outcome Caption → List ℕ → List ℕ → Type 0
-Left (accepted c) ws ws' = take (length (lineBytes c)) ws' ≡ lineBytes c
-Left (refused number place) ws ws' = 8 ≤ number → ws' ≡ ws
-
--- the workspace before and after, and the answer
-pub record Wrapped (tape ws ws' : List ℕ) (limit : ℕ) (answer : Answer) : Type 0 where
-  pub answers : answer ≡ answerOf (wrapCall limit (length ws) tape)
-  pub leaves : Left (wrapCall limit (length ws) tape) ws ws'
+-- the workspace before and after, and the answer: how many lines there are, with which the workspace then begins. Nothing else is changed.
+abbrev pub Wrapped : List ℕ → List ℕ → List ℕ → ℕ → Answer → Type 0
+Wrapped tape ws ws' limit answer =
+    Came (wrapCall limit (length ws) tape) (λ c. length (c .lines)) (λ c. nothing) (λ c. take (length (lineBytes c)) ws' ≡ lineBytes c)
+    nothing nothing ws ws' answer

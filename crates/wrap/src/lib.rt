@@ -21,6 +21,7 @@ ghost use Rattle.wrap.specs.Lines.{Line, isEmptyLine, withoutLast};
 ghost use Rattle.wrap.specs.Wrap.{mostColumns, lineTable};
 ghost use Rattle.wrap.specs.Laid.{tableFrom, lettersOn, Holds, Laid, Brought};
 ghost use Rattle.wrap.specs.Wrapped.{Wrapped};
+use tape::Answer;
 use tape::Style;
 
 const MOST_COLUMNS: u32 = 4096;
@@ -29,14 +30,6 @@ const MOST_COLUMNS: u32 = 4096;
 pub struct Lines {
     pub lines: usize,
     pub letters: usize,
-}
-
-// What a call of `wrap` comes to.
-pub enum Answer {
-    // How many lines the workspace holds.
-    Lines(usize),
-    // A refusal's number and place.
-    Refused(u8, usize),
 }
 
 fn is_empty_line(ws: &[u8], line: usize) -> bool
@@ -109,7 +102,7 @@ pub fn wrap(tape: &[u8], ws: &mut [u8], limit: u32) -> Answer
         return Answer::Refused(8, 0);
     }
     match tape::read_tape(tape, ws, Style::default_with([0xff; 4])) {
-        tape::Answer::Letters(count) => Answer::Lines(bring_lines(ws, count, limit as usize)),
-        tape::Answer::Refused(number, place) => Answer::Refused(number, place),
+        Answer::Accepted(count) => Answer::Accepted(bring_lines(ws, count, limit as usize)),
+        Answer::Refused(number, place) => Answer::Refused(number, place),
     }
 }

@@ -1,8 +1,8 @@
 //! Bitmap captions, drawn by the proved library `libcaptions.a`.
 //!
 //! A cue comes in as a tape of bytes. [`draw`] draws it whole, [`wrap`] breaks it into lines, and
-//! [`Job`] draws it in stripes, a budget of strokes at a time. What is not admitted comes back as a
-//! [`Refusal`], and the picture stays as it was; no call panics.
+//! [`Job`] draws it in stripes, a budget of strokes at a time, and can be stored and resumed. What
+//! is not admitted comes back as a [`Refusal`], and the picture stays as it was; no call panics.
 //!
 //! ```
 //! use captions::{Settings, Workspace, draw};
@@ -14,16 +14,20 @@
 //! # Ok::<(), captions::Refusal>(())
 //! ```
 
+mod command;
 mod job;
 mod lines;
 pub mod raw;
+mod record;
 mod refusal;
 mod settings;
 mod workspace;
 
-pub use job::{Job, STRIPES_MAX};
+pub use command::Command;
+pub use job::Job;
 pub use lines::{COLUMNS_MAX, Line, wrap};
-pub use refusal::{Refusal, Result};
+pub use record::{RECORD_BYTES, Record, STRIPES_MAX};
+pub use refusal::{Cause, Refusal, Result};
 pub use settings::{Align, LINE_HEIGHT_MAX, SIDE_MAX, Settings};
 pub use workspace::{WORKSPACE_BYTES, Workspace};
 
@@ -47,5 +51,5 @@ pub fn draw(
         workspace: workspace.bytes(),
         picture,
     };
-    refusal::answer(raw::draw(settings.words(), buffers))
+    refusal::answer(raw::draw(&settings.raw(), buffers))
 }

@@ -17,6 +17,10 @@ pub struct Line {
 }
 
 /// Breaks a tape's letters into lines of at most so many columns, from 1 to [`COLUMNS_MAX`].
+///
+/// Letters of unlike style, of which their color is part, are never one word. This takes no default
+/// color and reckons with opaque white: wherever the settings have another, the lines that
+/// [`draw`](crate::draw) makes may be unlike these.
 pub fn wrap(tape: &[u8], workspace: &mut Workspace, column_limit: u32) -> Result<Vec<Line>> {
     let lines = refusal::answer(raw::wrap(tape, workspace.bytes(), column_limit))? as usize;
     let (pairs, _) = workspace.bytes().as_chunks::<2>();

@@ -67,16 +67,16 @@ impl Settings {
     }
 
     /// The settings as the library takes them.
-    pub(crate) fn words(&self) -> raw::Settings {
-        [
-            self.width,
-            self.height,
-            u32::from_be_bytes(self.default_color),
-            u32::from_be_bytes(self.outline_color),
-            self.line_height_px,
-            self.bottom_margin_px,
-            self.outline_px,
-            self.align as u32,
-        ]
+    pub(crate) fn raw(&self) -> raw::Settings {
+        raw::Settings {
+            width: self.width,
+            height: self.height,
+            default_color: u32::from_be_bytes(self.default_color),
+            outline_color: u32::from_be_bytes(self.outline_color),
+            line_height: self.line_height_px,
+            bottom_margin: self.bottom_margin_px,
+            outline: self.outline_px,
+            alignment: self.align as u32,
+        }
     }
 }

@@ -119,7 +119,7 @@ fn draw_and_a_job_agree_on_any_tape() {
             Ok(_) => accepted += 1,
             Err(refusal) => {
                 assert_eq!(first, before, "seed {seed}");
-                refused[usize::from(refusal.number)] += 1;
+                refused[refusal.cause.number() as usize] += 1;
             }
         }
     }

@@ -1,41 +1,57 @@
-//! `include/captions.h`: `caller.c`, compiled as C and as C++, linked with the library and run; and
-//! its names and numbers, held to those of the library's source and of the wrapper.
+//! `include/captions.h`: `caller.c`, compiled as C and as C++, and `stack.c`, linked with the
+//! library and run; and its names and numbers, held to those of the library's source and of the
+//! wrapper.
 
+use captions::raw::{Record, Settings};
 use captions::{
-    Align, COLUMNS_MAX, LETTERS_MAX, LINE_HEIGHT_MAX, SIDE_MAX, STRIPES_MAX, TAPE_MAX,
-    WORKSPACE_BYTES,
+    Align, COLUMNS_MAX, Cause, LETTERS_MAX, LINE_HEIGHT_MAX, RECORD_BYTES, SIDE_MAX, STRIPES_MAX,
+    TAPE_MAX, WORKSPACE_BYTES,
 };
-use std::path::Path;
+use std::mem::{offset_of, size_of};
+use std::path::{Path, PathBuf};
 use std::process::Command;
 use std::{env, fs};
 
 const INCLUDE: &str = concat!(env!("CARGO_MANIFEST_DIR"), "/../../include");
 const HEADER: &str = concat!(env!("CARGO_MANIFEST_DIR"), "/../../include/captions.h");
-const CALLER: &str = concat!(env!("CARGO_MANIFEST_DIR"), "/tests/caller.c");
+const TESTS: &str = concat!(env!("CARGO_MANIFEST_DIR"), "/tests");
 const SOURCE: &str = concat!(
     env!("CARGO_MANIFEST_DIR"),
     "/../../crates/captions/src/lib.rt"
 );
 
-const LAST_LINE: &str = "252 checks passed";
+const WARNINGS: [&str; 4] = ["-Wall", "-Wextra", "-Wpedantic", "-Werror"];
 
-/// Compiles `caller.c` with the compiler that the variable names, or else the usual one; runs it.
-fn compile_and_run(variable: &str, usual: &str, language: &str, flags: &[&str]) {
+struct Language {
+    name: &'static str,
+    /// The variable that names a compiler, and the usual one.
+    compiler: [&'static str; 2],
+    flags: &'static [&'static str],
+}
+
+const C: Language = Language {
+    name: "c",
+    compiler: ["CC", "cc"],
+    flags: &["-std=c99", "-Wshadow", "-Wconversion", "-pthread"],
+};
+
+const CPP: Language = Language {
+    name: "c++",
+    compiler: ["CXX", "c++"],
+    flags: &["-std=c++11"],
+};
+
+/// Compiles a program as one in this language; answers where it is.
+fn compile(file: &str, language: &Language) -> PathBuf {
+    let [variable, usual] = language.compiler;
     let compiler = env::var(variable).unwrap_or(usual.to_string());
-    let program = Path::new(env!("CARGO_TARGET_TMPDIR")).join(format!("caller-{language}"));
+    let program = Path::new(env!("CARGO_TARGET_TMPDIR")).join(format!("{file}-{}", language.name));
     let compiled = Command::new(&compiler)
-        .args([
-            "-x",
-            language,
-            "-Wall",
-            "-Wextra",
-            "-Wpedantic",
-            "-Werror",
-            "-I",
-            INCLUDE,
-        ])
-        .args(flags)
-        .args([CALLER, "-x", "none", env!("CAPTIONS_ARCHIVE"), "-o"])
+        .args(["-x", language.name, "-I", INCLUDE])
+        .args(WARNINGS)
+        .args(language.flags)
+        .arg(Path::new(TESTS).join(file))
+        .args(["-x", "none", env!("CAPTIONS_ARCHIVE"), "-o"])
         .arg(&program)
         .output()
         .unwrap_or_else(|error| {
@@ -46,25 +62,35 @@ fn compile_and_run(variable: &str, usual: &str, language: &str, flags: &[&str]) 
     let told = String::from_utf8_lossy(&compiled.stderr);
     assert!(
         compiled.status.success(),
-        "`{compiler}` does not compile caller.c:\n{told}"
+        "`{compiler}` does not compile {file}:\n{told}"
     );
-
-    let ran = Command::new(&program).output().expect("the program starts");
-    let told = String::from_utf8_lossy(&ran.stderr);
-    assert!(ran.status.success(), "caller.c, {}:\n{told}", ran.status);
-    let written = String::from_utf8_lossy(&ran.stdout);
-    assert_eq!(written.lines().last(), Some(LAST_LINE));
+    program
 }
+
+/// What a program writes, which has to end well.
+fn written(program: &Path) -> String {
+    let ran = Command::new(program).output().expect("the program starts");
+    let [written, told] = [&ran.stdout, &ran.stderr].map(|bytes| String::from_utf8_lossy(bytes));
+    assert!(ran.status.success(), "{}:\n{written}{told}", ran.status);
+    written.into_owned()
+}
+
+const CALLER: &str = "273 checks passed\n";
 
 #[test]
 fn a_caller_in_c() {
-    let flags = ["-std=c99", "-Wshadow", "-Wconversion"];
-    compile_and_run("CC", "cc", "c", &flags);
+    assert_eq!(written(&compile("caller.c", &C)), CALLER);
 }
 
 #[test]
 fn a_caller_in_cpp() {
-    compile_and_run("CXX", "c++", "c++", &["-std=c++11"]);
+    assert_eq!(written(&compile("caller.c", &CPP)), CALLER);
+}
+
+#[test]
+fn a_call_needs_no_more_stack_than_the_header_says() {
+    let written = written(&compile("stack.c", &C));
+    assert_eq!(written.lines().count(), 4, "{written}");
 }
 
 fn read(path: &str) -> String {
@@ -91,7 +117,8 @@ fn in_c(parameter: &str) -> Vec<String> {
         "u32" => vec![format!("uint32_t {name}")],
         "&[u8]" => slice("const uint8_t"),
         "&mut [u8]" => slice("uint8_t"),
-        "&mut [u32; 65]" => vec![format!("uint32_t {name}[CAPTIONS_RECORD_WORDS]")],
+        "&[u32; 8]" => vec![format!("const captions_settings *{name}")],
+        "&mut [u32; 65]" => vec![format!("captions_record *{name}")],
         _ => panic!("no type of C for `{of}`"),
     }
 }
@@ -118,10 +145,129 @@ fn the_header_declares_the_functions_of_the_library() {
     );
 }
 
+/// What the header declares between these words, without comments: its lines.
+fn declared<'a>(header: &'a str, from: &str, to: &str) -> Vec<&'a str> {
+    let (before, _) = header.split_once(to).unwrap_or_else(|| panic!("no `{to}`"));
+    let (_, inside) = before
+        .rsplit_once(from)
+        .unwrap_or_else(|| panic!("no `{from}`"));
+    let code = inside.lines().map(|line| line.split("/*").next());
+    code.flatten()
+        .map(str::trim)
+        .filter(|line| !line.is_empty())
+        .collect()
+}
+
+#[test]
+fn settings_have_the_fields_of_the_wrapper_s() {
+    let fields = [
+        ("uint32_t width;", offset_of!(Settings, width)),
+        ("uint32_t height;", offset_of!(Settings, height)),
+        (
+            "uint32_t default_color;",
+            offset_of!(Settings, default_color),
+        ),
+        (
+            "uint32_t outline_color;",
+            offset_of!(Settings, outline_color),
+        ),
+        ("uint32_t line_height;", offset_of!(Settings, line_height)),
+        (
+            "uint32_t bottom_margin;",
+            offset_of!(Settings, bottom_margin),
+        ),
+        ("uint32_t outline;", offset_of!(Settings, outline)),
+        ("uint32_t alignment;", offset_of!(Settings, alignment)),
+    ];
+    let header = read(HEADER);
+    let declared = declared(&header, "typedef struct {", "} captions_settings;");
+    assert_eq!(declared, fields.map(|(field, _)| field));
+    let offsets = [0, 4, 8, 12, 16, 20, 24, 28];
+    assert_eq!(fields.map(|(_, offset)| offset), offsets);
+    assert_eq!(size_of::<Settings>(), 32);
+}
+
+#[test]
+fn a_record_has_the_fields_of_the_wrapper_s() {
+    let fields = [
+        ("uint32_t stripe_height;", offset_of!(Record, stripe_height)),
+        (
+            "uint32_t counters[CAPTIONS_STRIPES_MAX];",
+            offset_of!(Record, counters),
+        ),
+    ];
+    let header = read(HEADER);
+    let declared = declared(&header, "typedef struct {", "} captions_record;");
+    assert_eq!(declared, fields.map(|(field, _)| field));
+    assert_eq!(fields.map(|(_, offset)| offset), [0, 4]);
+    assert_eq!([size_of::<Record>(), RECORD_BYTES], [260; 2]);
+}
+
+#[test]
+fn usual_settings_are_the_wrapper_s() {
+    let header = read(HEADER);
+    let usual = captions::Settings::new(7, 9);
+    let color = |color| format!("0x{:08X}u", u32::from_be_bytes(color));
+    let due = [
+        "captions_settings usual;".to_string(),
+        "usual.width = width;".to_string(),
+        "usual.height = height;".to_string(),
+        format!("usual.default_color = {};", color(usual.default_color)),
+        format!("usual.outline_color = {};", color(usual.outline_color)),
+        format!("usual.line_height = {};", usual.line_height_px),
+        format!("usual.bottom_margin = {};", usual.bottom_margin_px),
+        format!("usual.outline = {};", usual.outline_px),
+        "usual.alignment = CAPTIONS_ALIGN_CENTER;".to_string(),
+    ];
+    let declared = declared(&header, "uint32_t height)\n{", "return usual;");
+    assert_eq!(declared, due);
+    assert_eq!([usual.width, usual.height], [7, 9]);
+    assert_eq!(usual.align, Align::Center);
+}
+
+/// A name as C has it: `NotAScalar` is `NOT_A_SCALAR`, and `Letter1` is `LETTER_1`.
+fn name_in_c(name: &str) -> String {
+    let parted = name.chars().enumerate().map(|(place, letter)| {
+        let begins = letter.is_ascii_uppercase() || letter.is_ascii_digit();
+        let mark = if begins && place > 0 { "_" } else { "" };
+        format!("{mark}{}", letter.to_ascii_uppercase())
+    });
+    parted.collect()
+}
+
+/// What the header names in an enum.
+fn named<'a>(header: &'a str, name: &str) -> Vec<&'a str> {
+    let (_, rest) = header
+        .split_once(&format!("enum {name} {{"))
+        .unwrap_or_else(|| panic!("no `{name}`"));
+    let lines = rest.lines().map(str::trim);
+    let inside = lines.take_while(|line| *line != "};");
+    let code = inside.filter(|line| line.starts_with("CAPTIONS_"));
+    code.filter_map(|line| line.split([',', '/']).next())
+        .map(str::trim)
+        .collect()
+}
+
+#[test]
+fn the_header_has_the_names_of_the_wrapper() {
+    let header = read(HEADER);
+    let causes = Cause::ALL.map(|cause| {
+        let name = name_in_c(&format!("{cause:?}"));
+        format!("CAPTIONS_{name} = {}", cause.number())
+    });
+    assert_eq!(named(&header, "captions_refusal"), causes);
+    let commands = captions::Command::ALL.map(|command| {
+        let name = name_in_c(&format!("{command:?}"));
+        format!("CAPTIONS_{name} = 0x{:02X}", command.byte())
+    });
+    assert_eq!(named(&header, "captions_command"), commands);
+}
+
 #[test]
 fn the_header_has_the_numbers_of_the_wrapper() {
     let header = read(HEADER);
     let numbers = [
+        ("#define CAPTIONS_VERSION", 1),
         ("#define CAPTIONS_TAPE_MAX", TAPE_MAX as u32),
         ("#define CAPTIONS_WORKSPACE_MIN", WORKSPACE_BYTES as u32),
         ("#define CAPTIONS_SIDE_MAX", SIDE_MAX),
@@ -129,7 +275,6 @@ fn the_header_has_the_numbers_of_the_wrapper() {
         ("#define CAPTIONS_COLUMNS_MAX", COLUMNS_MAX),
         ("#define CAPTIONS_LETTERS_MAX", LETTERS_MAX as u32),
         ("#define CAPTIONS_STRIPES_MAX", STRIPES_MAX),
-        ("#define CAPTIONS_RECORD_WORDS", STRIPES_MAX + 1),
         ("CAPTIONS_ALIGN_CENTER =", Align::Center as u32),
         ("CAPTIONS_ALIGN_LEFT =", Align::Left as u32),
         ("CAPTIONS_ALIGN_START =", Align::Start as u32),

@@ -18,20 +18,9 @@ enum {
     PAINT = 0xA5 /* what buffers hold before a call */
 };
 
-struct settings {
-    uint32_t width;
-    uint32_t height;
-    uint32_t default_color;
-    uint32_t outline_color;
-    uint32_t line_height;
-    uint32_t bottom_margin;
-    uint32_t outline;
-    uint32_t alignment;
-};
-
 /* What a call that draws is given. */
 struct call {
-    struct settings settings;
+    captions_settings settings;
     const uint8_t *tape;
     size_t tape_len;
     uint8_t *workspace;
@@ -41,12 +30,14 @@ struct call {
 };
 
 /* "Hi" in bold, a break, and "you". */
-static const uint8_t GREETING[] = {6, 2, 'H', 2, 'i', 0, 5, 2, 'y', 2, 'o', 2, 'u'};
+static const uint8_t GREETING[] = {
+    CAPTIONS_BOLD, CAPTIONS_LETTER_1, 'H', CAPTIONS_LETTER_1, 'i', CAPTIONS_END,
+    CAPTIONS_BREAK, CAPTIONS_LETTER_1, 'y', CAPTIONS_LETTER_1, 'o', CAPTIONS_LETTER_1, 'u'};
 enum { GREETING_LETTERS = 5 };
 
 static uint8_t workspace[CAPTIONS_WORKSPACE_MIN];
 static uint8_t picture[PICTURE_BYTES + AFTER];
-static uint32_t record[CAPTIONS_RECORD_WORDS];
+static captions_record record;
 
 static int passed;
 static int failed;
@@ -65,42 +56,31 @@ static void check(int holds, const char *what)
 
 static uint64_t draw(const struct call *c)
 {
-    const struct settings *s = &c->settings;
-    return captions_draw(s->width, s->height, s->default_color, s->outline_color, s->line_height,
-                         s->bottom_margin, s->outline, s->alignment, c->tape, c->tape_len,
-                         c->workspace, c->workspace_len, c->picture, c->picture_len);
+    return captions_draw(&c->settings, c->tape, c->tape_len, c->workspace, c->workspace_len,
+                         c->picture, c->picture_len);
 }
 
 static uint64_t open_job(const struct call *c, uint32_t stripe_height)
 {
-    const struct settings *s = &c->settings;
-    return captions_open(s->width, s->height, s->default_color, s->outline_color, s->line_height,
-                         s->bottom_margin, s->outline, s->alignment, c->tape, c->tape_len,
-                         c->workspace, c->workspace_len, c->picture, c->picture_len, stripe_height,
-                         record);
+    return captions_open(&c->settings, c->tape, c->tape_len, c->workspace, c->workspace_len,
+                         c->picture, c->picture_len, stripe_height, &record);
 }
 
 static uint64_t work(const struct call *c, uint32_t stripe, uint32_t budget)
 {
-    const struct settings *s = &c->settings;
-    return captions_work(s->width, s->height, s->default_color, s->outline_color, s->line_height,
-                         s->bottom_margin, s->outline, s->alignment, c->tape, c->tape_len,
-                         c->workspace, c->workspace_len, c->picture, c->picture_len, record, stripe,
-                         budget);
+    return captions_work(&c->settings, c->tape, c->tape_len, c->workspace, c->workspace_len,
+                         c->picture, c->picture_len, &record, stripe, budget);
 }
 
 /* A call that is accepted: the greeting in yellow, with a blue outline of one pixel. */
 static struct call good_call(void)
 {
     struct call c;
-    c.settings.width = WIDTH;
-    c.settings.height = HEIGHT;
+    c.settings = captions_settings_usual(WIDTH, HEIGHT);
     c.settings.default_color = 0xFFEE11FF;
     c.settings.outline_color = 0x0022CCFF;
     c.settings.line_height = 16;
     c.settings.bottom_margin = 4;
-    c.settings.outline = 1;
-    c.settings.alignment = CAPTIONS_ALIGN_CENTER;
     c.tape = GREETING;
     c.tape_len = sizeof GREETING;
     c.workspace = workspace;
@@ -149,8 +129,10 @@ static size_t first_lit_column(void)
 /* Wrap leaves each line's letters and columns, and then the numbers of the letters. */
 static void check_wrap(void)
 {
-    static const uint8_t tape[] = {2, 'A', 2, 'B', 2, 'C', 2, 'D', 2, 'E', 2, ' ', 2, 'F',
-                                   5, 2, 'G'};
+    static const uint8_t tape[] = {
+        CAPTIONS_LETTER_1, 'A', CAPTIONS_LETTER_1, 'B', CAPTIONS_LETTER_1, 'C',
+        CAPTIONS_LETTER_1, 'D', CAPTIONS_LETTER_1, 'E', CAPTIONS_LETTER_1, ' ',
+        CAPTIONS_LETTER_1, 'F', CAPTIONS_BREAK,    CAPTIONS_LETTER_1, 'G'};
     static const unsigned due[] = {4, 4, 3, 3, 1, 1, 0, 1, 2, 3, 4, 5, 6, 8};
     uint64_t lines = captions_wrap(tape, sizeof tape, workspace, sizeof workspace, 4);
     check(lines == 3, "Wrap: ABCDE F, break, G at 4 columns has three lines");
@@ -162,11 +144,41 @@ static void check_wrap(void)
     check(same, "Wrap: the lines are ABCD, E F and G");
 }
 
+/* Every command is known by its name; letters of one, two and three bytes are one letter each. */
+static void check_commands(void)
+{
+    static const uint8_t tape[] = {
+        CAPTIONS_EMPTY, CAPTIONS_TIME_MARK,
+        CAPTIONS_VOICE, CAPTIONS_LETTER_1, 'V', CAPTIONS_END,
+        CAPTIONS_GROUP, CAPTIONS_LETTER_2, 0x20, 0xAC, CAPTIONS_END, CAPTIONS_END,
+        CAPTIONS_COLOR, 0x11, 0x22, 0x33,
+        CAPTIONS_ITALIC, CAPTIONS_LETTER_3, 0x01, 0xF6, 0x00, CAPTIONS_END, CAPTIONS_END};
+    uint64_t lines = captions_wrap(tape, sizeof tape, workspace, sizeof workspace, 9);
+    check(captions_refused(lines) == 0, "Wrap: a tape of every command is accepted");
+    check(captions_answer(lines) == 1, "Wrap: it has one line");
+    check(workspace[0] == 0 && workspace[1] == 5, "Wrap: of V, a colon, a space and two letters");
+}
+
+/* The settings that the maker makes, one by one. */
+static void check_usual_settings(void)
+{
+    captions_settings usual = captions_settings_usual(WIDTH, HEIGHT);
+    check(usual.width == WIDTH && usual.height == HEIGHT, "usual settings: the size");
+    check(usual.default_color == 0xFFFFFFFF, "usual settings: white letters");
+    check(usual.outline_color == 0x000000FF, "usual settings: a black outline, opaque");
+    check(usual.line_height == 20, "usual settings: the line height");
+    check(usual.bottom_margin == 24, "usual settings: the bottom margin");
+    check(usual.outline == 1, "usual settings: an outline of a pixel");
+    check(usual.alignment == CAPTIONS_ALIGN_CENTER, "usual settings: lines at the center");
+}
+
 static void check_draw(void)
 {
     struct call c = good_call();
     memset(picture, PAINT, sizeof picture);
-    check(draw(&c) == GREETING_LETTERS * 9, "Draw: answers nine strokes a letter");
+    uint64_t drawn = draw(&c);
+    check(captions_refused(drawn) == 0, "Draw: is accepted");
+    check(captions_answer(drawn) == GREETING_LETTERS * 9, "Draw: answers nine strokes a letter");
     check(pixels_of(0) > 0, "Draw: clears the picture");
     check(pixels_of(c.settings.default_color) > 0, "Draw: letters have the default color");
     check(pixels_of(c.settings.outline_color) > 0, "Draw: outlines have the outline color");
@@ -223,17 +235,60 @@ static void check_job(void)
     check(open_job(&c, STRIPE_HEIGHT) == total, "Open: answers as many strokes as Draw");
     check(is_all(picture, PICTURE_BYTES, 0), "Open: clears the picture");
     check(is_all(picture + PICTURE_BYTES, AFTER, PAINT), "Open: the bytes after the picture stay");
-    check(record[0] == STRIPE_HEIGHT, "Open: the record begins with the stripe height");
-    check(is_all(record + 1, sizeof record - sizeof record[0], 0), "Open: the counters are 0");
+    check(record.stripe_height == STRIPE_HEIGHT, "Open: the record has the stripe height");
+    check(is_all(record.counters, sizeof record.counters, 0), "Open: the counters are 0");
 
     check(work(&c, 2, BUDGET) == BUDGET, "Work: does as many strokes as its budget");
-    check(record[1 + 2] == BUDGET, "Work: counts them");
+    check(record.counters[2] == BUDGET, "Work: counts them");
     for (uint32_t stripe = 0; stripe < STRIPES; stripe++) {
         check(finish(&c, stripe), "Work: is accepted until the stripe is done");
-        check(record[1 + stripe] == total, "Work: all strokes of the stripe are counted");
+        check(record.counters[stripe] == total, "Work: all strokes of the stripe are counted");
     }
     check(work(&c, 2, BUDGET) == 0, "Work: nothing is left of a stripe that is done");
     check(memcmp(picture, drawn, sizeof picture) == 0, "Work: the picture is what Draw leaves");
+}
+
+/* Where the default color is not white, Draw may make other lines than Wrap. */
+static void check_lines_of_colors(void)
+{
+    static const uint8_t tape[] = {
+        CAPTIONS_LETTER_1, 'X', CAPTIONS_LETTER_1, ' ', CAPTIONS_LETTER_1, 'A',
+        CAPTIONS_COLOR, 0xFF, 0xFF, 0xFF, CAPTIONS_LETTER_1, 'B', CAPTIONS_END};
+    struct call c = good_call();
+    captions_wrap(tape, sizeof tape, workspace, sizeof workspace, 3);
+    check(workspace[1] == 1 && workspace[5] == 2, "Wrap: X, and then AB");
+    c.tape = tape;
+    c.tape_len = sizeof tape;
+    c.settings.width = 3 * 8;
+    c.settings.outline = 0;
+    c.settings.default_color = 0xFFFFFFFF;
+    check(captions_answer(draw(&c)) == 3, "Draw: X and AB, in white, are three letters");
+    c.settings.default_color = 0x00FF00FF;
+    check(captions_answer(draw(&c)) == 4, "Draw: X A and B, of two colors, are four");
+}
+
+/* A job goes on in another process from its record and its picture. */
+static void check_stored(void)
+{
+    static uint8_t drawn[sizeof picture];
+    static uint8_t stored_picture[sizeof picture];
+    struct call c = good_call();
+    memset(picture, PAINT, sizeof picture);
+    draw(&c);
+    memcpy(drawn, picture, sizeof picture);
+    open_job(&c, STRIPE_HEIGHT);
+    work(&c, 3, BUDGET);
+    captions_record stored = record;
+    memcpy(stored_picture, picture, sizeof picture);
+
+    memset(picture, PAINT, sizeof picture);
+    memset(&record, PAINT, sizeof record);
+    memcpy(picture, stored_picture, sizeof picture);
+    record = stored;
+    for (uint32_t stripe = 0; stripe < STRIPES; stripe++) {
+        check(captions_refused(work(&c, stripe, UINT32_MAX)) == 0, "Work: goes on as stored");
+    }
+    check(memcmp(picture, drawn, sizeof picture) == 0, "Work: and leaves what Draw leaves");
 }
 
 /* A tape without bytes is a cue without lines, and a buffer of no bytes may be NULL. */
@@ -293,29 +348,28 @@ static void check_open_refused(const struct call *c, uint32_t stripe_height, uin
                                uint32_t place)
 {
     paint();
-    memset(record, PAINT, sizeof record);
+    memset(&record, PAINT, sizeof record);
     check_answer("Open, refused", open_job(c, stripe_height), number, place);
     check_left("Open, refused: leaves the picture, and the workspace where it must", number);
-    check(is_all(record, sizeof record, 0), "Open, refused: writes zeros to the record");
+    check(is_all(&record, sizeof record, 0), "Open, refused: writes zeros to the record");
 }
 
 /* With the record as it is. */
 static void check_work_refused(const struct call *c, uint32_t stripe, uint32_t number,
                                uint32_t place)
 {
-    uint32_t before[CAPTIONS_RECORD_WORDS];
+    captions_record before = record;
     paint();
-    memcpy(before, record, sizeof record);
     check_answer("Work, refused", work(c, stripe, BUDGET), number, place);
     check_left("Work, refused: leaves the picture, and the workspace where it must", number);
-    check(memcmp(record, before, sizeof record) == 0, "Work, refused: leaves the record");
+    check(memcmp(&record, &before, sizeof record) == 0, "Work, refused: leaves the record");
 }
 
 /* The record of a job that has done nothing. */
 static void new_record(uint32_t stripe_height)
 {
-    memset(record, 0, sizeof record);
-    record[0] = stripe_height;
+    memset(&record, 0, sizeof record);
+    record.stripe_height = stripe_height;
 }
 
 static void check_refused(const struct call *c, uint32_t number, uint32_t place)
@@ -341,13 +395,14 @@ static void check_tape(const uint8_t *tape, size_t length, uint32_t number, uint
 
 static void check_tape_refusals(void)
 {
-    static const uint8_t unknown[] = {2, 'A', 0x0C};
-    static const uint8_t cut[] = {2, 'A', 4, 0};
-    static const uint8_t closed[] = {2, 'A', 0};
-    static const uint8_t left_open[] = {6, 2, 'A'};
-    static const uint8_t surrogate[] = {2, 'A', 4, 0x00, 0xD8, 0x00};
-    static const uint8_t too_large[] = {4, 0x11, 0x00, 0x00};
-    static const uint8_t break_in_name[] = {9, 2, 'A', 5};
+    static const uint8_t unknown[] = {CAPTIONS_LETTER_1, 'A', CAPTIONS_TIME_MARK + 1};
+    static const uint8_t cut[] = {CAPTIONS_LETTER_1, 'A', CAPTIONS_LETTER_3, 0};
+    static const uint8_t closed[] = {CAPTIONS_LETTER_1, 'A', CAPTIONS_END};
+    static const uint8_t left_open[] = {CAPTIONS_BOLD, CAPTIONS_LETTER_1, 'A'};
+    static const uint8_t surrogate[] = {CAPTIONS_LETTER_1, 'A',
+                                        CAPTIONS_LETTER_3, 0x00, 0xD8, 0x00};
+    static const uint8_t too_large[] = {CAPTIONS_LETTER_3, 0x11, 0x00, 0x00};
+    static const uint8_t break_in_name[] = {CAPTIONS_VOICE, CAPTIONS_LETTER_1, 'A', CAPTIONS_BREAK};
     static uint8_t many[CAPTIONS_TAPE_MAX + 1];
 
     check_tape(unknown, sizeof unknown, CAPTIONS_UNKNOWN_COMMAND, 2);
@@ -357,15 +412,15 @@ static void check_tape_refusals(void)
     check_tape(surrogate, sizeof surrogate, CAPTIONS_NOT_A_SCALAR, 2);
     check_tape(too_large, sizeof too_large, CAPTIONS_NOT_A_SCALAR, 0);
     check_tape(break_in_name, sizeof break_in_name, CAPTIONS_NOT_IN_A_NAME, 3);
-    memset(many, 0x0A, sizeof many);
+    memset(many, CAPTIONS_GROUP, sizeof many);
     check_tape(many, 17, CAPTIONS_TOO_DEEP, 16);
-    memset(many, 0x05, sizeof many);
+    memset(many, CAPTIONS_BREAK, sizeof many);
     check_tape(many, CAPTIONS_LETTERS_MAX + 1, CAPTIONS_TOO_MANY_LETTERS, CAPTIONS_LETTERS_MAX);
     check_tape(many, sizeof many, CAPTIONS_TAPE_TOO_LONG, 0);
 
     check(captions_wrap(many, CAPTIONS_LETTERS_MAX, workspace, sizeof workspace, 4) == 0,
           "Wrap: as many letters as a cue may have, all of them breaks");
-    memset(many, 0x0B, sizeof many);
+    memset(many, CAPTIONS_TIME_MARK, sizeof many);
     check(captions_wrap(many, CAPTIONS_TAPE_MAX, workspace, sizeof workspace, 4) == 0,
           "Wrap: a tape as long as it may be");
 }
@@ -424,10 +479,10 @@ static void check_job_refusals(void)
 
     new_record(STRIPE_HEIGHT);
     check_work_refused(&c, STRIPES, CAPTIONS_NO_SUCH_STRIPE, 0);
-    record[1] = GREETING_LETTERS * 9 + 1;
+    record.counters[0] = GREETING_LETTERS * 9 + 1;
     check_work_refused(&c, 0, CAPTIONS_COUNTERS_UNSOUND, 0);
-    record[1] = 0;
-    record[1 + STRIPES] = 1;
+    record.counters[0] = 0;
+    record.counters[STRIPES] = 1;
     check_work_refused(&c, 0, CAPTIONS_COUNTERS_UNSOUND, 0);
 
     c.settings.width = 8;
@@ -436,15 +491,19 @@ static void check_job_refusals(void)
     c.settings.height = CAPTIONS_STRIPES_MAX;
     check(captions_refused(open_job(&c, 1)) == 0, "Open: as many stripes as may be");
     check(work(&c, CAPTIONS_STRIPES_MAX - 1, BUDGET) == BUDGET, "Work: on the last of them");
-    check(record[CAPTIONS_RECORD_WORDS - 1] == BUDGET, "Work: its counter ends the record");
+    check(record.counters[CAPTIONS_STRIPES_MAX - 1] == BUDGET, "Work: counted at the end");
 }
 
 int main(void)
 {
     check_wrap();
+    check_commands();
+    check_usual_settings();
     check_draw();
     check_alignments();
+    check_lines_of_colors();
     check_job();
+    check_stored();
     check_empty();
     check_tape_refusals();
     check_setting_refusals();

@@ -2,7 +2,7 @@
 
 mod common;
 
-use captions::{Align, Line, Refusal, Settings, Workspace, draw, wrap};
+use captions::{Align, Cause, Line, Refusal, Settings, Workspace, draw, wrap};
 use common::{PAINT, painted, plain, tape};
 
 /// The lines of a tape, each its letters' numbers and its columns.
@@ -53,8 +53,8 @@ fn case_g_an_empty_text_of_another_style_ends_a_run() {
 #[test]
 fn case_k_what_is_admitted() {
     let refusal = |tape: &[u8]| {
-        let Refusal { number, place } = wrap(tape, &mut Workspace::new(), 4).unwrap_err();
-        (number, place)
+        let Refusal { cause, place } = wrap(tape, &mut Workspace::new(), 4).unwrap_err();
+        (cause.number(), place)
     };
     assert_eq!(refusal(&[6]), (3, 1));
     assert_eq!(refusal(&[0]), (3, 0));
@@ -230,7 +230,7 @@ fn a_refused_draw_leaves_the_picture() {
     assert_eq!(
         answer,
         Err(Refusal {
-            number: 3,
+            cause: Cause::Unbalanced,
             place: 2
         })
     );
@@ -290,7 +290,7 @@ fn the_largest_numbers_are_taken_or_refused() {
     };
     assert!(largest.new_picture().is_empty());
     let refused = Refusal {
-        number: 8,
+        cause: Cause::OutOfRange,
         place: 0,
     };
     assert_eq!(

@@ -2,7 +2,7 @@
 
 mod common;
 
-use captions::{Job, Refusal, Settings, Workspace, draw};
+use captions::{Cause, Job, Refusal, Settings, Workspace, draw};
 use common::{PAINT, Random, painted, plain, tape};
 
 const AFTER: usize = 8;
@@ -163,7 +163,7 @@ fn refused_work_leaves_picture_and_counters() {
         assert_eq!(
             answer,
             Err(Refusal {
-                number: 12,
+                cause: Cause::NoSuchStripe,
                 place: 0
             })
         );
@@ -191,23 +191,44 @@ fn a_refused_open_leaves_the_picture() {
     assert_eq!(
         refused(&[2, b'A'], 0),
         Refusal {
-            number: 13,
+            cause: Cause::StripesUnfit,
             place: 0
         }
     );
     assert_eq!(
         refused(&[2, b'A'], 1),
         Refusal {
-            number: 13,
+            cause: Cause::StripesUnfit,
             place: 0
         }
     );
     assert_eq!(
         refused(&[2, b'A', 12], 2),
         Refusal {
-            number: 1,
+            cause: Cause::UnknownCommand,
             place: 2
         }
     );
     assert_eq!(picture, painted(&settings, AFTER));
+}
+
+/// As many letters as a cue may have, each with the widest outline: more than 16 bits count.
+#[test]
+fn the_most_strokes_are_counted() {
+    let settings = Settings {
+        outline_px: 2,
+        ..plain(8, 2)
+    };
+    let tape = tape(&"x".repeat(captions::LETTERS_MAX));
+    let total = 4096 * 17;
+    let workspace = &mut Workspace::new();
+    let mut picture = settings.new_picture();
+    assert_eq!(draw(&settings, &tape, workspace, &mut picture), Ok(total));
+    let mut job = Job::open(&settings, &tape, workspace, &mut picture, 1).unwrap();
+    assert_eq!(job.total(), total);
+    assert_eq!(job.work(workspace, 1, total - 1), Ok(total - 1));
+    let record = job.record();
+    let mut job = Job::resume(&settings, &tape, workspace, &mut picture, &record).unwrap();
+    assert_eq!((job.total(), job.done(1)), (total, total - 1));
+    assert_eq!(job.work(workspace, 1, total), Ok(1));
 }

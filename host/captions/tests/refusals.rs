@@ -3,26 +3,34 @@
 mod common;
 
 use captions::raw::{self, Buffers, Record};
-use captions::{Job, Refusal, Result, Settings, Workspace, draw, wrap};
+use captions::{Cause, Job, Refusal, Result, Settings, Workspace, draw, wrap};
 use common::{PAINT, plain, tape};
 
-/// A tape at fault, its refusal's number and its place.
-fn faults() -> Vec<(Vec<u8>, u8, usize)> {
+/// A tape at fault, why it is refused, and the place.
+fn faults() -> Vec<(Vec<u8>, Cause, usize)> {
     let letters = |count| tape(&"x".repeat(count));
     vec![
-        (vec![2, b'A', 0x0C], 1, 2),
-        (vec![0xFF], 1, 0),
-        (vec![5, 8, 1, 2], 2, 1),
-        (vec![2, b'A', 0], 3, 2),
-        (vec![6, 2, b'A'], 3, 3),
-        (vec![9, 2, b'A'], 3, 3),
-        (vec![5, 3, 0xDF, 0xFF], 4, 1),
-        (vec![4, 0x11, 0x00, 0x00], 4, 0),
-        ([vec![5], vec![0x0A; 17]].concat(), 5, 17),
-        ([letters(4096), vec![5]].concat(), 6, 2 * 4096),
-        ([letters(4095), vec![9, 0]].concat(), 6, 2 * 4095 + 1),
-        (vec![9, 2, b'A', 1], 7, 3),
-        (vec![5; 16_385], 10, 0),
+        (vec![2, b'A', 0x0C], Cause::UnknownCommand, 2),
+        (vec![0xFF], Cause::UnknownCommand, 0),
+        (vec![5, 8, 1, 2], Cause::OperandsMissing, 1),
+        (vec![2, b'A', 0], Cause::Unbalanced, 2),
+        (vec![6, 2, b'A'], Cause::Unbalanced, 3),
+        (vec![9, 2, b'A'], Cause::Unbalanced, 3),
+        (vec![5, 3, 0xDF, 0xFF], Cause::NotAScalar, 1),
+        (vec![4, 0x11, 0x00, 0x00], Cause::NotAScalar, 0),
+        ([vec![5], vec![0x0A; 17]].concat(), Cause::TooDeep, 17),
+        (
+            [letters(4096), vec![5]].concat(),
+            Cause::TooManyLetters,
+            2 * 4096,
+        ),
+        (
+            [letters(4095), vec![9, 0]].concat(),
+            Cause::TooManyLetters,
+            2 * 4095 + 1,
+        ),
+        (vec![9, 2, b'A', 1], Cause::NotInAName, 3),
+        (vec![5; 16_385], Cause::TapeTooLong, 0),
     ]
 }
 
@@ -49,11 +57,11 @@ fn refusals(settings: &Settings, tape: &[u8], bytes: usize) -> [Refusal; 2] {
 #[test]
 fn a_tape_at_fault_is_refused_by_every_call() {
     let settings = plain(32, 32);
-    for (tape, number, place) in faults() {
-        let due = Refusal { number, place };
+    for (tape, cause, place) in faults() {
+        let due = Refusal { cause, place };
         assert_eq!(wrap(&tape, &mut Workspace::new(), 4), Err(due));
         assert_eq!(refusals(&settings, &tape, 32 * 32 * 4), [due; 2]);
-        assert_eq!(due.is_in_tape(), number <= 7);
+        assert_eq!(cause.is_in_tape(), cause != Cause::TapeTooLong);
     }
 }
 
@@ -73,9 +81,9 @@ fn tapes_at_the_limits_are_admitted() {
 }
 
 #[test]
-fn number_8_a_setting_or_the_column_limit() {
+fn number_8_a_setting() {
     let due = Refusal {
-        number: 8,
+        cause: Cause::OutOfRange,
         place: 0,
     };
     let good = plain(8, 8);
@@ -101,7 +109,14 @@ fn number_8_a_setting_or_the_column_limit() {
         ..good
     };
     assert_eq!(job(&highest, &[], &mut [0; 8 * 8 * 4], 8), Ok(0));
+}
 
+#[test]
+fn number_8_a_column_limit_or_an_alignment() {
+    let due = Refusal {
+        cause: Cause::OutOfRange,
+        place: 0,
+    };
     for limit in [0, captions::COLUMNS_MAX + 1] {
         assert_eq!(wrap(&[12], &mut Workspace::new(), limit), Err(due));
     }
@@ -110,15 +125,17 @@ fn number_8_a_setting_or_the_column_limit() {
         Ok(vec![])
     );
 
-    let mut words = WORDS;
-    words[7] = 5; // an alignment, which the wrapper cannot ask for
-    assert_eq!(raw_draw(words, &[], 65_536), 8 << 32);
+    let misaligned = raw::Settings {
+        alignment: 5, // which the wrapper cannot ask for
+        ..PLAIN
+    };
+    assert_eq!(raw_draw(misaligned, &[], 65_536), 8 << 32);
 }
 
 #[test]
 fn number_9_a_short_picture() {
     let due = Refusal {
-        number: 9,
+        cause: Cause::PictureTooShort,
         place: 0,
     };
     assert_eq!(refusals(&plain(8, 8), &[12], 8 * 8 * 4 - 1), [due; 2]);
@@ -130,7 +147,7 @@ fn numbers_12_and_13_stripes() {
     let settings = plain(4, 65);
     let mut picture = settings.new_picture();
     let due = Refusal {
-        number: 13,
+        cause: Cause::StripesUnfit,
         place: 0,
     };
     assert_eq!(job(&settings, &[12], &mut picture, 0), Err(due));
@@ -141,16 +158,25 @@ fn numbers_12_and_13_stripes() {
     assert_eq!(
         open.work(workspace, 33, 1),
         Err(Refusal {
-            number: 12,
+            cause: Cause::NoSuchStripe,
             place: 0
         })
     );
 }
 
 /// A picture of 8 by 16, white letters and no outline.
-const WORDS: raw::Settings = [8, 16, 0xFFFF_FFFF, 0x0000_00FF, 16, 0, 0, 1];
+const PLAIN: raw::Settings = raw::Settings {
+    width: 8,
+    height: 16,
+    default_color: 0xFFFF_FFFF,
+    outline_color: 0x0000_00FF,
+    line_height: 16,
+    bottom_margin: 0,
+    outline: 0,
+    alignment: 1,
+};
 
-fn raw_draw(words: raw::Settings, tape: &[u8], room: usize) -> u64 {
+fn raw_draw(settings: raw::Settings, tape: &[u8], room: usize) -> u64 {
     let mut workspace = vec![PAINT; room];
     let mut picture = vec![PAINT; 8 * 16 * 4];
     let buffers = Buffers {
@@ -158,7 +184,7 @@ fn raw_draw(words: raw::Settings, tape: &[u8], room: usize) -> u64 {
         workspace: &mut workspace,
         picture: &mut picture,
     };
-    let answer = raw::draw(words, buffers);
+    let answer = raw::draw(&settings, buffers);
     let refused = answer >> 32 != 0;
     assert!(!refused || picture.iter().all(|&byte| byte == PAINT));
     let kept = matches!(answer >> 32, 8..=11);
@@ -176,7 +202,7 @@ fn raw_work(record: &mut Record, room: usize, stripe: u32) -> u64 {
         workspace: &mut workspace,
         picture: &mut picture,
     };
-    let answer = raw::work(WORDS, buffers, record, stripe, 1);
+    let answer = raw::work(&PLAIN, buffers, record, stripe, 1);
     if answer >> 32 != 0 {
         assert_eq!(*record, before);
         assert!(picture.iter().all(|&byte| byte == PAINT));
@@ -186,18 +212,18 @@ fn raw_work(record: &mut Record, room: usize, stripe: u32) -> u64 {
     answer
 }
 
-fn record(stripe_height: u32) -> Record {
-    let mut record = [0; 65];
-    record[0] = stripe_height;
-    record
-}
+/// A record that no job has.
+const ANY: Record = Record {
+    stripe_height: u32::MAX,
+    counters: [u32::MAX; 64],
+};
 
 #[test]
 fn number_11_a_short_workspace() {
-    assert_eq!(raw_draw(WORDS, &[2, b'A'], 65_536), 1);
-    assert_eq!(raw_draw(WORDS, &[2, b'A'], 65_535), 11 << 32);
-    assert_eq!(raw_draw(WORDS, &[12; 16_385], 0), 10 << 32);
-    assert_eq!(raw_work(&mut record(8), 65_535, 0), 11 << 32);
+    assert_eq!(raw_draw(PLAIN, &[2, b'A'], 65_536), 1);
+    assert_eq!(raw_draw(PLAIN, &[2, b'A'], 65_535), 11 << 32);
+    assert_eq!(raw_draw(PLAIN, &[12; 16_385], 0), 10 << 32);
+    assert_eq!(raw_work(&mut Record::new(8), 65_535, 0), 11 << 32);
     let mut workspace = vec![PAINT; 65_535];
     assert_eq!(raw::wrap(&[], &mut workspace, 4), 11 << 32);
     assert!(workspace.iter().all(|&byte| byte == PAINT));
@@ -205,66 +231,62 @@ fn number_11_a_short_workspace() {
 
 #[test]
 fn a_refused_raw_open_gives_zeros() {
-    let mut record = [7; 65];
+    let mut record = ANY;
     let mut open = |tape: &[u8], stripe_height| {
         let buffers = Buffers {
             tape,
             workspace: &mut vec![PAINT; 65_536],
             picture: &mut [PAINT; 8 * 16 * 4],
         };
-        let answer = raw::open(WORDS, buffers, stripe_height, &mut record);
+        let answer = raw::open(&PLAIN, buffers, stripe_height, &mut record);
         (answer, record)
     };
-    assert_eq!(open(&[2, b'A'], 5), (1, self::record(5)));
-    assert_eq!(open(&[2, b'A'], 0), (13 << 32, [0; 65]));
+    assert_eq!(open(&[2, b'A'], 5), (1, Record::new(5)));
+    assert_eq!(open(&[2, b'A'], 0), (13 << 32, Record::new(0)));
     open(&[2, b'A'], 5);
-    assert_eq!(open(&[2, b'A', 6], 5), (3 << 32 | 3, [0; 65]));
+    assert_eq!(open(&[2, b'A', 6], 5), (3 << 32 | 3, Record::new(0)));
 }
 
 #[test]
 fn number_14_a_record_that_no_job_has() {
-    assert_eq!(raw_work(&mut record(8), 65_536, 1), 1);
-    assert_eq!(raw_work(&mut record(0), 65_536, 0), 13 << 32);
-    assert_eq!(raw_work(&mut record(8), 65_536, 2), 12 << 32);
-    let mut over = record(8);
-    over[1] = 2;
+    assert_eq!(raw_work(&mut Record::new(8), 65_536, 1), 1);
+    assert_eq!(raw_work(&mut Record::new(0), 65_536, 0), 13 << 32);
+    assert_eq!(raw_work(&mut Record::new(8), 65_536, 2), 12 << 32);
+    let mut over = Record::new(8);
+    over.counters[0] = 2;
     assert_eq!(raw_work(&mut over, 65_536, 2), 14 << 32);
-    let mut past = record(8);
-    past[3] = 1;
+    let mut past = Record::new(8);
+    past.counters[2] = 1;
     assert_eq!(raw_work(&mut past, 65_536, 0), 14 << 32);
-    assert_eq!(raw_work(&mut [u32::MAX; 65], 65_536, u32::MAX), 14 << 32);
+    assert_eq!(raw_work(&mut { ANY }, 65_536, u32::MAX), 14 << 32);
 }
 
 #[test]
 fn every_refusal_says_its_cause() {
-    let of = |number| Refusal { number, place: 3 };
-    let unknown = of(15).sentence();
-    let mut told: Vec<&str> = vec![unknown];
-    for number in 1..=14 {
-        let sentence = of(number).sentence();
-        assert!(!told.contains(&sentence), "{number}: {sentence}");
-        told.push(sentence);
-        let place = if number <= 7 { " at byte 3" } else { "" };
-        let due = format!("refused {number}{place}: {sentence}");
-        assert_eq!(of(number).to_string(), due);
-    }
     let words = [
-        (1, "not a command"),
-        (2, "operands"),
-        (3, "closes no list"),
-        (4, "surrogate"),
-        (5, "16 lists"),
-        (6, "4096 letters"),
-        (7, "voice's name holds only letters"),
-        (8, "setting or the column limit"),
-        (9, "picture's buffer"),
-        (10, "16384 bytes"),
-        (11, "workspace"),
-        (12, "no such stripe"),
-        (13, "stripe height"),
-        (14, "counter"),
+        "not a command",
+        "operands",
+        "closes no list",
+        "surrogate",
+        "16 lists",
+        "4096 letters",
+        "voice's name holds only letters",
+        "setting or the column limit",
+        "picture's buffer",
+        "16384 bytes",
+        "workspace",
+        "no such stripe",
+        "stripe height",
+        "counter",
+        "unknown",
     ];
-    for (number, words) in words {
-        assert!(of(number).sentence().contains(words), "{number}: {words}");
+    let causes = (1..=14).map(Cause::of).chain([Cause::Unknown(99)]);
+    for (number, cause) in (1..).zip(causes) {
+        let sentence = cause.sentence();
+        let told = words.iter().filter(|words| sentence.contains(**words));
+        assert_eq!(told.collect::<Vec<_>>(), [&words[number - 1]], "{sentence}");
+        let place = if number <= 7 { " at byte 3" } else { "" };
+        let due = format!("refused {}{place}: {sentence}", cause.number());
+        assert_eq!(Refusal { cause, place: 3 }.to_string(), due);
     }
 }

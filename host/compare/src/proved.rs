@@ -2,13 +2,12 @@
 
 use crate::draw::settings::Settings;
 use crate::refusal::{self, Refusal};
-use crate::work::record::Record;
-use captions::raw;
 pub use captions::raw::Buffers;
+use captions::raw::{self, Record};
 
 /// Draws a tape's cue, and answers how many strokes it took.
 pub fn draw(settings: &Settings, buffers: Buffers) -> Result<usize, Refusal> {
-    refusal::halves(raw::draw(settings.words(), buffers))
+    refusal::halves(raw::draw(&settings.raw(), buffers))
 }
 
 /// Clears the picture for a tape's cue, gives the record of stripes so high, and answers how many
@@ -19,7 +18,8 @@ pub fn open(
     stripe_height: u32,
     record: &mut Record,
 ) -> Result<usize, Refusal> {
-    record.lend(|words| raw::open(settings.words(), buffers, stripe_height, words))
+    let answer = raw::open(&settings.raw(), buffers, stripe_height, record);
+    refusal::halves(answer)
 }
 
 /// Does the next strokes of a stripe, at most its budget, and answers how many.
@@ -30,5 +30,6 @@ pub fn work(
     stripe: u32,
     budget: u32,
 ) -> Result<usize, Refusal> {
-    record.lend(|words| raw::work(settings.words(), buffers, words, stripe, budget))
+    let answer = raw::work(&settings.raw(), buffers, record, stripe, budget);
+    refusal::halves(answer)
 }

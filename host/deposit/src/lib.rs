@@ -24,13 +24,14 @@ const EXAMPLES: &str = "deposit/examples.txt";
 const GLYPHS: &str = "crates/specimen/stdout";
 
 /// The definitions in reading order: a chapter's title, its crate and its files.
-const CHAPTERS: [(&str, &str, &[&str]); 9] = [
+const CHAPTERS: [(&str, &str, &[&str]); 12] = [
     ("The signs", "font", &["Signs"]),
     (
         "The tape",
         "tape",
         &["Outcome", "Style", "Command", "Runs", "Tape"],
     ),
+    ("What a call answers and leaves", "tape", &["Call"]),
     ("Lines", "wrap", &["Columns", "Lines", "Wrap", "Wrapped"]),
     (
         "The font",
@@ -44,12 +45,14 @@ const CHAPTERS: [(&str, &str, &[&str]); 9] = [
             "Settings", "Layout", "Outline", "Strokes", "Picture", "Draw", "Drawn",
         ],
     ),
+    ("Stripes", "job", &["Stripes", "Work", "Worked", "History"]),
+    ("The functions for C", "tape", &["Packed"]),
     (
-        "Stripes",
-        "compositor",
-        &["Stripes", "Work", "Worked", "History"],
+        "The functions for C",
+        "captions",
+        &["Interface", "HistoryInC"],
     ),
-    ("The functions for C", "captions", &["Interface"]),
+    ("Reading by itself", "tape", &["TapeRead"]),
     (
         "The other way round: from segments to tapes",
         "tape",
@@ -148,11 +151,7 @@ fn shown_part<'a>(
             continue;
         }
         let declaration = declared::show(root, of, path)?;
-        earlier.extend(
-            shown
-                .iter()
-                .filter(|declared| declared.is_in(of, &declaration)),
-        );
+        earlier.extend(shown.iter().filter(|declared| declared.is_in(&declaration)));
         declarations += &declaration;
         let part = part.source.file;
         shown.push(Declared { of, path, part });

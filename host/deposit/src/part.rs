@@ -36,9 +36,9 @@ impl Declared<'_> {
         self.path.last().map_or("", String::as_str)
     }
 
-    /// Whether a declaration of a crate speaks of this type.
-    pub fn is_in(&self, of: &str, declaration: &str) -> bool {
-        self.of == of && signs::has_word(declaration, self.name())
+    /// Whether a declaration speaks of this type.
+    pub fn is_in(&self, declaration: &str) -> bool {
+        signs::has_word(declaration, self.name())
     }
 }
 
@@ -120,9 +120,16 @@ impl Part {
         }
     }
 
-    /// Whether a line of it introduces a name.
+    /// Whether a line of it introduces a name. What a record or a choice is told with may stand on
+    /// lines of its own.
     pub fn introduces(&self, name: &str) -> bool {
         self.body.lines().any(|line| {
+            let kind = ["record ", "data "]
+                .iter()
+                .find_map(|kind| line.strip_prefix(kind));
+            if kind.is_some_and(|rest| rest.split_whitespace().next() == Some(name)) {
+                return true;
+            }
             let before = line.split(" : ").next().unwrap_or_default();
             let mut words = before
                 .split_whitespace()
@@ -164,7 +171,8 @@ fn plain(line: &str) -> String {
     let text = text
         .replace(['«', '»'], "")
         .replace("Type 0", "Type")
-        .replace(" {A = A}", "");
+        .replace(" {A = A}", "")
+        .replace("Unit {0}", "Unit");
     format!("{indent}{text}{comment}")
 }
 

@@ -3,7 +3,7 @@
 //! An example is indented, and begins with a limit or with settings. Its lines say what is asked; what
 //! comes of it stands behind a comma, or in the lines below, and is made anew here.
 
-use captions::raw::{self, Buffers, Settings};
+use captions::raw::{self, Buffers, Record, Settings};
 use captions::{WORKSPACE_BYTES, Workspace};
 use std::path::Path;
 
@@ -47,15 +47,19 @@ fn tape(words: &str) -> Vec<u8> {
 }
 
 fn settings(words: &str) -> Settings {
-    let numbers = words
-        .split(' ')
-        .enumerate()
-        .map(|(place, word)| match place {
-            2 | 3 => u32::from_str_radix(word, 16).expect("a color is hexadecimal"),
-            _ => number(word),
-        });
-    let numbers: Vec<u32> = numbers.collect();
-    numbers.try_into().expect("there are eight settings")
+    let words: Vec<&str> = words.split(' ').collect();
+    let words: [&str; 8] = words.try_into().expect("there are eight settings");
+    let color = |word| u32::from_str_radix(word, 16).expect("a color is hexadecimal");
+    Settings {
+        width: number(words[0]),
+        height: number(words[1]),
+        default_color: color(words[2]),
+        outline_color: color(words[3]),
+        line_height: number(words[4]),
+        bottom_margin: number(words[5]),
+        outline: number(words[6]),
+        alignment: number(words[7]),
+    }
 }
 
 /// A call's answer: a number behind this word, or the refusal.
@@ -68,7 +72,7 @@ fn answer(word: &str, answer: u64) -> String {
 
 fn lines(tape: &[u8], limit: u32) -> String {
     match captions::wrap(tape, &mut Workspace::new(), limit) {
-        Err(refusal) => format!("refused {} at {}\n", refusal.number, refusal.place),
+        Err(refusal) => format!("refused {} at {}\n", refusal.cause.number(), refusal.place),
         Ok(lines) => {
             let listed = lines.iter().map(|line| {
                 let numbers = line.letters.iter().map(|number| format!(" {number}"));
@@ -83,20 +87,26 @@ fn lines(tape: &[u8], limit: u32) -> String {
     }
 }
 
+/// What a record holds before Open writes it.
+const ANY: Record = Record {
+    stripe_height: 7,
+    counters: [7; 64],
+};
+
 /// A picture that is drawn whole, or in stripes; its buffer held other bytes before.
 struct Drawing {
     settings: Settings,
     tape: Vec<u8>,
     room: usize,
     picture: Vec<u8>,
-    record: raw::Record,
+    record: Record,
 }
 
 impl Drawing {
     /// Workspace and buffer are as long as the example says, or else as they have to be.
     fn new(example: &[&str]) -> Drawing {
         let settings = settings(behind(example, "settings")[0]);
-        let [width, height, ..] = settings.map(|number| number as usize);
+        let [width, height] = [settings.width, settings.height].map(|side| side as usize);
         let told = |word: &str| {
             behind(example, word)
                 .first()
@@ -107,17 +117,17 @@ impl Drawing {
             tape: tape(&behind(example, "tape").join(" ")),
             room: told("room").unwrap_or(WORKSPACE_BYTES),
             picture: vec![0xaa; told("buffer").unwrap_or(width * height * 4)],
-            record: [7; 65],
+            record: ANY,
         }
     }
 
-    fn call(&mut self, call: impl FnOnce(Settings, Buffers, &mut raw::Record) -> u64) -> u64 {
+    fn call(&mut self, call: impl FnOnce(&Settings, Buffers, &mut Record) -> u64) -> u64 {
         let buffers = Buffers {
             tape: &self.tape,
             workspace: &mut vec![0; self.room],
             picture: &mut self.picture,
         };
-        call(self.settings, buffers, &mut self.record)
+        call(&self.settings, buffers, &mut self.record)
     }
 
     fn draw(&mut self) -> String {
@@ -134,10 +144,10 @@ impl Drawing {
 
     /// Begins with a record that no Open gave, and a cleared picture.
     fn set_record(&mut self, words: &str) -> String {
-        self.record = [0; 65];
         self.picture.fill(0);
-        let numbers = words.split(' ').map(number);
-        let places = self.record.iter_mut().zip(numbers);
+        let mut numbers = words.split(' ').map(number);
+        self.record = Record::new(numbers.next().expect("a record has a stripe height"));
+        let places = self.record.counters.iter_mut().zip(numbers);
         places.for_each(|(place, number)| *place = number);
         format!("record {words}\n")
     }
@@ -154,8 +164,11 @@ impl Drawing {
 
     /// The counters of the stripes that there are.
     fn counters(&self) -> String {
-        let stripes = self.settings[1].div_ceil(self.record[0].max(1)) as usize;
-        let counters = self.record[1..].iter().take(stripes);
+        let stripes = self
+            .settings
+            .height
+            .div_ceil(self.record.stripe_height.max(1));
+        let counters = self.record.counters.iter().take(stripes as usize);
         let listed: String = counters.map(|counter| format!(" {counter}")).collect();
         format!("counters{listed}\n")
     }
@@ -176,7 +189,7 @@ impl Drawing {
             let known = words.chunks(2).find(|pair| pair[1] == pixel);
             known.map_or(pixel.clone(), |pair| pair[0].to_owned())
         };
-        let rows = self.picture.chunks(4 * self.settings[0] as usize);
+        let rows = self.picture.chunks(4 * self.settings.width as usize);
         let shown = rows.map(|row| row.chunks(4).map(sign).collect::<String>() + "\n");
         shown.collect()
     }

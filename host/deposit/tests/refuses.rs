@@ -8,7 +8,7 @@ fn repository() -> PathBuf {
 }
 
 /// The folders whose files the text is gathered from.
-const FOLDERS: [&str; 13] = [
+const FOLDERS: [&str; 15] = [
     "crates/font/specs",
     "crates/font/src",
     "crates/tape/specs",
@@ -17,6 +17,8 @@ const FOLDERS: [&str; 13] = [
     "crates/wrap/src",
     "crates/compositor/specs",
     "crates/compositor/src",
+    "crates/job/specs",
+    "crates/job/src",
     "crates/captions/specs",
     "crates/captions/src",
     "crates/specimen",
@@ -134,8 +136,8 @@ fn a_name_that_no_earlier_part_has() {
 #[test]
 fn a_name_from_a_part_that_comes_later() {
     let file = "crates/tape/specs/Outcome.antt";
-    let old = "use Prim.Native.Nat.{ℕ}\n";
-    let new = "use Prim.Native.Nat.{ℕ}\nuse Rattle.tape.specs.Runs.{Run}\n";
+    let old = "use Prim.Native.Nat.{ℕ, zero, suc}\n";
+    let new = "use Prim.Native.Nat.{ℕ, zero, suc}\nuse Rattle.tape.specs.Runs.{Run}\n";
     let said = said("later", file, old, new);
     assert!(
         said.contains("Runs, which does not stand before it"),

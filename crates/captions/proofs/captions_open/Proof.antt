@@ -1,6 +1,5 @@
-use mathlib.Core.Path.{_∙_, ap}
-use Rattle.compositor.specs.Worked.{Opened}
-use Rattle.captions.specs.Interface.{settingsOf, wordsOf}
+use Rattle.job.specs.Worked.{Opened}
+use Rattle.captions.specs.Interface.{settingsOf, recordOf}
 use Rattle.captions.proofs.Packing.{open-packs}
 use borrow.Author.Needs.{needs}
 use Rattle.captions.proofs.captions_open.Statement.{statement}
@@ -8,16 +7,15 @@ use Rattle.captions.proofs.captions_open.Tie as tie
 
 -- the call, on the settings that the numbers stand for
 opened : (q : tie.After-open) →
-    let a = q .before .before .before .before .before .before .before .args in
-    Opened
-    (settingsOf (a .width) (a .height) (a .default-color) (a .outline-color) (a .line-height) (a .bottom-margin) (a .outline) (a .alignment))
-    (a .tape .now) (a .workspace .now) (q .«open» .last .1 .1 .0) (a .picture .now) (q .«open» .last .1 .1 .1 .0) (a .stripe-height) (q .«open» .result)
+    let a = q .before .before .before .before .before .before .before .before .args in
+    Opened (settingsOf (a .settings .now)) (a .tape .now) (a .workspace .now) (q .«open» .last .1 .1 .0) (a .picture .now) (q .«open» .last .1 .1 .1 .0)
+    (a .stripe-height) (q .«open» .result)
 opened q =
-    let after-settings = q .before .before .before in
-    rw (after-settings .settings .ensures) at (q .«open» .ensures)
+    let after-settings-of = q .before .before .before in
+    rw (after-settings-of .settings-of .ensures) at (q .«open» .ensures)
 
-settings-requires : tie.Need-settings-requires
-settings-requires c κs = search needs
+settings-of-requires : tie.Need-settings-of-requires
+settings-of-requires c κs = search needs
 
 open-requires : tie.Need-open-requires
 open-requires c κs = search needs
@@ -26,9 +24,7 @@ words-of-requires : tie.Need-words-of-requires
 words-of-requires c κs = search needs
 
 packed-requires : tie.Need-packed-requires
-packed-requires c κs =
-    let after-open = c .before .before .before .before .before .before in
-    open-packs (opened after-open) .near
+packed-requires c κs = open-packs _ _ _ _ _ (opened (c .before .before .before .before .before .before)) .near
 
 same-length : tie.Need-same-length
 same-length c = search needs
@@ -38,20 +34,18 @@ same-length-2 c = search needs
 
 returns : tie.Need-returns
 returns c =
-    let after-open = c .before .before .before .before .before .before .before in
-    let d = opened after-open in
+    let words = c .before in
     record {
-      answers = c .packed .ensures ∙ open-packs d .is;
-      gives = c .before .words-of .ensures ∙ ap wordsOf (d .gives);
-      paints = d .paints;
-      leaves = d .leaves;
+      answer = words .before .before .before .before .before .before .«open» .result .answer;
+      calls = rw (words .words-of .ensures) (opened (words .before .before .before .before .before .before));
+      packs = c .packed .ensures;
     }
 
 pub captions-open-spec : {M : Type 1} → statement M
 captions-open-spec =
     tie.close
     (tie.spec
-    settings-requires
+    settings-of-requires
     open-requires
     words-of-requires
     packed-requires

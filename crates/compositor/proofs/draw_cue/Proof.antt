@@ -1,6 +1,8 @@
-use mathlib.Core.Path.{_∙_}
+use mathlib.Core.Path.{_∙_, ap}
+use Prim.Native.Nat.{ℕ}
 use native.Mathlib.Omega.{arith}
-use Rattle.compositor.specs.Read.{strokesAt}
+use Rattle.compositor.specs.Picture.{pictureAfter}
+use Rattle.compositor.specs.Read.{strokesIn}
 use Rattle.compositor.proofs.Cleared.{picture-drawn}
 use borrow.Author.Needs.{needs}
 use Rattle.compositor.proofs.draw_cue.Statement.{statement}
@@ -31,9 +33,8 @@ draw-lines-requires c κs =
     let lined = start .pre .2 in
     let long = after-clear .clear .kept .0 in (
       record { narrow = range .narrow; short = range .low; high = omega arith; long = omega arith },
-      lined .readable,
+      lined,
       range,
-      lined .few-lines,
     )
 
 same-length : tie.Need-same-length
@@ -46,7 +47,10 @@ returns c =
     let start = after-picture-bytes .before .before .before .before in
     let a = start .args in
     let cleared = rw (after-picture-bytes .picture-bytes .ensures) at (after-clear .clear .ensures) in
-    c .before .before .draw-lines .ensures ∙ rw cleared (picture-drawn (a .s) (strokesAt (a .s) (a .ws .now) 0 0 (a .lines)) (a .total) (a .picture .now))
+    let ts = strokesIn (a .s) (a .ws .now) (a .lines) in
+    c .before .before .draw-lines .ensures
+    ∙ rw cleared (picture-drawn (a .s) ts (a .total) (a .picture .now))
+    ∙ ap (λ (n : ℕ). pictureAfter (a .s) ts n (a .picture .now)) (start .pre .3)
 
 pub draw-cue-spec : {M : Type 1} → statement M
 draw-cue-spec =

@@ -1,121 +1,43 @@
-use mathlib.Core.Path.{_∙_, sym, ap}
-use Prim.Native.Nat.{ℕ, _*_}
+use mathlib.Core.Path.{_≡_, refl, sym, subst}
+use mathlib.Core.List.{List}
 use native.Mathlib.Omega.{arith}
-use Rattle.tape.specs.Outcome.{onAccepted}
-use Rattle.tape.specs.Style.{defaultWith}
-use Rattle.tape.specs.Reading.{TapeRead}
-use Rattle.tape.proofs.Answers.{letters-are, refusal-is, read-is}
-use Rattle.wrap.proofs.Whole.{letters-held}
-use Rattle.compositor.specs.Outline.{outlineOf}
-use Rattle.compositor.specs.Draw.{tapeStrokes}
-use Rattle.compositor.specs.Strokes.{drawing}
-use Rattle.compositor.proofs.Ranges.{keeps-least}
-use Rattle.compositor.proofs.Whole.{total-small, strokes-are, lined}
+use Rattle.tape.specs.Outcome.{Outcome}
+use Rattle.compositor.specs.Strokes.{Stroke}
+use Rattle.compositor.specs.Ready.{CueRead}
+use Rattle.compositor.proofs.Checks.{stops, goes-on}
 use borrow.Author.Needs.{needs}
 use Rattle.compositor.proofs.read_cue.Statement.{statement}
 use Rattle.compositor.proofs.read_cue.Tie as tie
 
--- the tape was read
-read : (q : tie.After-read-tape) →
-    let s = q .before .before .before .before .before .before .args in
-    TapeRead (s .tape .now) (s .ws .now) (q .read-tape .last .1 .0) (defaultWith (s .s .«default_color»)) (q .read-tape .result)
-read q = rw (← q .before .default-with .ensures) (q .read-tape .ensures)
+-- nothing was found
+none : (c : tie.Else1) → c .before .first-fault .result ≡ 0
+none c = omega arith
 
-default-with-requires : tie.Need-default-with-requires
-default-with-requires c κs = search needs
+first-fault-requires : tie.Need-first-fault-requires
+first-fault-requires c κs = search needs
 
-read-tape-requires : tie.Need-read-tape-requires
-read-tape-requires c κs = search needs
+returns : tie.Need-returns
+returns c = (stops (c .before .first-fault .ensures) (c .if1 .taken), λ _. refl)
 
-enum-known-count : tie.Need-enum-known-count
-enum-known-count c = search needs
-
-column-limit-requires : tie.Need-column-limit-requires
-column-limit-requires c κs = search needs
-
-wrap-runs-requires : tie.Need-wrap-runs-requires
-wrap-runs-requires c κs =
-    let after-count = c .before .before .before in
-    let after-read-tape = after-count .before .before .before .before in
-    let a = letters-are (read after-read-tape) (after-count .count .given .1) in
-    let limit = c .column-limit .ensures in
-    let most = limit .2 in
-    let n = after-read-tape .read-tape .kept .1 .0 in
-    let room = a .room in
-    (a .few, limit .1, omega arith, omega arith)
-
-letter-strokes-requires : tie.Need-letter-strokes-requires
-letter-strokes-requires c κs = search needs
-
-mul-t17 : tie.Need-mul-t17
-mul-t17 c =
-    let after-wrap-runs = c .before .before .before .before in
-    let after-count = after-wrap-runs .before .before .before .before in
-    let after-read-tape = after-count .before .before .before .before in
-    let start = after-read-tape .before .before .before .before .before .before in
-    let a = letters-are (read after-read-tape) (after-count .count .given .1) in
-    let few = a .few in
-    let on-lines = after-wrap-runs .wrap-runs .ensures .1 in
-    let n = after-wrap-runs .wrap-runs .result .letters in
-    let each = ap (λ (m : ℕ). n * m) (c .before .letter-strokes .ensures .0) in
-    let small = total-small n (outlineOf (start .args .s)) (omega arith) (omega arith) in
-    omega arith
-
-enum-known-number : tie.Need-enum-known-number
-enum-known-number c = search needs
+lay-cue-requires : tie.Need-lay-cue-requires
+lay-cue-requires c κs =
+    let else1 = c .before in
+    let a = else1 .before .first-fault .ensures .fine (none else1) in
+    (a .range, a .short, a .enough)
 
 same-length : tie.Need-same-length
 same-length c = search needs
 
-returns : tie.Need-returns
-unfolding tapeStrokes
-returns c =
-    let after-wrap-runs = c .before .before .before .before in
-    let after-column-limit = after-wrap-runs .before in
-    let after-count = after-column-limit .before .before .before in
-    let after-read-tape = after-count .before .before .before .before in
-    let start = after-read-tape .before .before .before .before .before .before in
-    let a = letters-are (read after-read-tape) (after-count .count .given .1) in
-    let w = after-wrap-runs .wrap-runs in
-    let limit = after-column-limit .column-limit .ensures .0 in
-    let each = c .before .letter-strokes .ensures .0 in
-    let laid = w .ensures .2 (a .letters) (a .count) (letters-held a) in
-    let few = a .few in
-    let room = a .room in
-    let n = after-read-tape .read-tape .kept .1 .0 in
-    let m = w .kept .0 in
-    let lines = w .ensures .0 in
-    let on-lines = w .ensures .1 in (
-      lined laid (start .args .s) limit _ each (omega arith) (omega arith) (omega arith),
-      ap (onAccepted (drawing (start .args .s))) (sym (read-is _ _ _ (start .pre .1) (start .pre .2)) ∙ a .means) ∙ rw (strokes-are laid (start .args .s) limit),
-    )
-
-same-length-2 : tie.Need-same-length-2
-same-length-2 c = search needs
-
 returns-2 : tie.Need-returns-2
-unfolding tapeStrokes
 returns-2 c =
-    let after-read-tape = c .before .before .before .before .before in
-    let start = after-read-tape .before .before .before .before .before .before in
-    let r = refusal-is (read after-read-tape) (c .before .number .given .1) in (
-      ap (onAccepted (drawing (start .args .s))) (sym (read-is _ _ _ (start .pre .1) (start .pre .2)) ∙ r .means),
-      λ k. r .keeps (keeps-least _ k),
-    )
+    let else1 = c .before .before .before .before in
+    let a = else1 .before .before .before .before .args in
+    let r = c .before .before .lay-cue in
+    subst
+    (λ (o : Outcome (List Stroke)). CueRead (a .s) o (a .ws .now) (r .last .1 .1 .0) (r .result))
+    (sym (goes-on (else1 .before .first-fault .ensures) (none else1)))
+    (r .ensures)
 
 pub read-cue-spec : {M : Type 1} → statement M
 read-cue-spec =
-    tie.close
-    (tie.spec
-    default-with-requires
-    read-tape-requires
-    enum-known-count
-    column-limit-requires
-    wrap-runs-requires
-    letter-strokes-requires
-    mul-t17
-    enum-known-number
-    same-length
-    returns
-    same-length-2
-    returns-2)
+    tie.close (tie.spec first-fault-requires returns lay-cue-requires same-length returns-2)

@@ -1,5 +1,6 @@
 use native.Mathlib.Omega.{arith}
-use Rattle.tape.proofs.Answers.{Accepted, letters-are}
+use Rattle.tape.proofs.Calls.{accepted-is}
+use Rattle.tape.proofs.Answers.{Read, letters-fit}
 use borrow.Author.Needs.{needs}
 use Rattle.letters.proofs.print_tape.Statement.{statement}
 use Rattle.letters.proofs.print_tape.Tie as tie
@@ -7,8 +8,8 @@ use Rattle.letters.proofs.print_tape.Tie as tie
 -- the tape has letters
 letters : (c : tie.After-known-told) → let q = c .before .before .before .before .before in
     let a = q .before .before .before .before .before .args in
-    Accepted (a .tape .now) (a .workspace .now) (q .read-tape .last .1 .0) (q .before .default-with .result) (c .before .count .given .0 .0)
-letters c = letters-are (c .before .before .before .before .before .read-tape .ensures) (c .before .count .given .1)
+    Read (a .tape .now) (a .workspace .now) (q .read-tape .last .1 .0) (q .before .default-with .result) (c .before .count .given .0 .0)
+letters c = accepted-is (c .before .before .before .before .before .read-tape .ensures) (c .before .count .given .1)
 
 default-with-requires : tie.Need-default-with-requires
 default-with-requires c κs = search needs
@@ -20,7 +21,11 @@ enum-known-count : tie.Need-enum-known-count
 enum-known-count c = search needs
 
 mul-print-letters : tie.Need-mul-print-letters
-mul-print-letters c = let few = letters c .few in omega arith
+mul-print-letters c =
+    let l = letters c in
+    let count = l .counts in
+    let few = letters-fit _ _ _ l .few in
+    omega arith
 
 sub-print-letters : tie.Need-sub-print-letters
 sub-print-letters c = search needs
@@ -31,8 +36,10 @@ part-print-letters-start c = search needs
 part-print-letters-end : tie.Need-part-print-letters-end
 part-print-letters-end c =
     let l = letters (c .before) in
-    let few = l .few in
-    let room = l .room in
+    let count = l .counts in
+    let fit = letters-fit _ _ _ l in
+    let few = fit .few in
+    let room = fit .enough in
     let kept = c .before .before .before .before .before .before .read-tape .kept .1 .0 in
     omega arith
 

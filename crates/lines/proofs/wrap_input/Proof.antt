@@ -1,5 +1,5 @@
 use native.Mathlib.Omega.{arith}
-use Rattle.wrap.proofs.Answers.{lines-are}
+use Rattle.wrap.proofs.Answers.{lines-fit}
 use borrow.Author.Needs.{needs}
 use Rattle.lines.proofs.wrap_input.Statement.{statement}
 use Rattle.lines.proofs.wrap_input.Tie as tie
@@ -25,9 +25,9 @@ enum-known-lines c = search needs
 write-lines-requires : tie.Need-write-lines-requires
 write-lines-requires c κs =
     let w = c .before .before .before .before .before .before .wrap in
-    let a = lines-are (w .ensures) (c .before .before .lines .given .1) in
-    let few = a .few in
-    let room = a .room in
+    let a = lines-fit _ _ _ (w .ensures) (c .before .before .lines .given .1) in
+    let few = a .0 in
+    let room = a .1 in
     let kept = w .kept .1 .0 in
     omega arith
 

@@ -1,8 +1,11 @@
+use mathlib.Core.Path.{subst}
 use native.Mathlib.Omega.{arith}
 use lib.ListN.{replicate}
+use Rattle.tape.specs.declared.Style.{Style}
 use Rattle.tape.specs.Style.{defaultWith}
-use Rattle.tape.specs.Reading.{TapeRead}
-use Rattle.tape.proofs.Answers.{letters-are, refusal-is}
+use Rattle.tape.specs.TapeRead.{TapeRead}
+use Rattle.tape.proofs.Calls.{accepted-is, refused-is}
+use Rattle.tape.proofs.Answers.{letters-fit}
 use Rattle.wrap.proofs.Whole.{too-low, too-high, letters-held, wrapped, tape-refused}
 use borrow.Author.Needs.{needs}
 use Rattle.wrap.proofs.wrap.Statement.{statement}
@@ -12,7 +15,10 @@ use Rattle.wrap.proofs.wrap.Tie as tie
 read : (q : tie.After-read-tape) →
     let a = q .before .before .before .before .before .before .before .args in
     TapeRead (a .tape .now) (a .ws .now) (q .read-tape .last .1 .0) (defaultWith (replicate 4 0xff)) (q .read-tape .result)
-read q = rw (← q .before .default-with .ensures) (q .read-tape .ensures)
+read q =
+    let a = q .before .before .before .before .before .before .before .args in
+    let r = q .read-tape in
+    subst (λ (s : Style). TapeRead (a .tape .now) (a .ws .now) (r .last .1 .0) s (r .result)) (q .before .default-with .ensures) (r .ensures)
 
 returns : tie.Need-returns
 returns c = let a = c .before .before .before .args in too-low (a .tape .now) (a .ws .now) (a .limit) (c .if1 .taken)
@@ -36,10 +42,13 @@ bring-lines-requires : tie.Need-bring-lines-requires
 bring-lines-requires c κs =
     let q = c .before .before .before .before .before .before in
     let o = q .before .before .before in
-    let a = letters-are (read q) (c .before .before .count .given .1) in
+    let a = accepted-is (read q) (c .before .before .count .given .1) in
     let n = q .read-tape .kept .1 .0 in
-    let room = a .room in
-    (a .few, o .before .if1 .left, o .if2 .left, omega arith)
+    let count = a .counts in
+    let fit = letters-fit _ _ _ a in
+    let few = fit .few in
+    let room = fit .enough in
+    (omega arith, o .before .if1 .left, o .if2 .left, omega arith)
 
 enum-known-number : tie.Need-enum-known-number
 enum-known-number c = search needs
@@ -53,9 +62,9 @@ returns-3 c =
     let q = c .before .before .before .before .before .before .before .before .before in
     let o = q .before .before .before in
     let args = o .before .before .before .before .args in
-    let a = letters-are (read q) (c .before .before .before .before .before .count .given .1) in
+    let a = accepted-is (read q) (c .before .before .before .before .before .count .given .1) in
     wrapped (args .tape .now) (args .ws .now) (args .limit) (o .before .if1 .left) (o .if2 .left) a (b .result) (b .last .0)
-    (b .ensures (a .letters) (a .count) (letters-held a))
+    (b .ensures (a .given) (a .counts) (letters-held _ _ _ a))
 
 same-length-2 : tie.Need-same-length-2
 same-length-2 c = search needs
@@ -65,7 +74,7 @@ returns-4 c =
     let q = c .before .before .before .before .before in
     let o = q .before .before .before in
     let args = o .before .before .before .before .args in
-    tape-refused (args .tape .now) (args .ws .now) (args .limit) (o .before .if1 .left) (o .if2 .left) (refusal-is (read q) (c .before .number .given .1))
+    tape-refused (args .tape .now) (args .ws .now) (args .limit) (o .before .if1 .left) (o .if2 .left) (refused-is (read q) (c .before .number .given .1))
 
 pub wrap-spec : {M : Type 1} → statement M
 wrap-spec =

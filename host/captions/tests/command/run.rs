@@ -2,8 +2,9 @@
 
 use std::io::Write;
 use std::process::{Child, Command, Output, Stdio};
-use std::thread::sleep;
-use std::time::{Duration, Instant};
+use std::sync::mpsc::{self, RecvTimeoutError};
+use std::thread;
+use std::time::Duration;
 
 /// How long the command may take where it has to end by itself.
 const LONG: Duration = Duration::from_secs(20);
@@ -65,7 +66,7 @@ pub fn run(words: &[&str], input: &[u8]) -> Ran {
     let mut child = start(words);
     // It need not read all.
     let _ = child.stdin.take().expect("a pipe").write_all(input);
-    Ran::new(child.wait_with_output().expect("the command ends"))
+    Ran::new(ended(child))
 }
 
 /// Runs it on an input that gives these bytes and then neither more nor an end.
@@ -73,14 +74,24 @@ pub fn run_open(words: &[&str], input: &[u8]) -> Ran {
     let mut child = start(words);
     let mut pipe = child.stdin.take().expect("a pipe");
     let _ = pipe.write_all(input);
-    let began = Instant::now();
-    while child.try_wait().expect("it can be asked").is_none() {
-        if began.elapsed() > LONG {
-            child.kill().expect("it can be ended");
+    let output = ended(child);
+    drop(pipe);
+    Ran::new(output)
+}
+
+/// What it wrote. One that does not end by itself is ended, and then has no status.
+fn ended(child: Child) -> Output {
+    let number = child.id().to_string();
+    let (done, waits) = mpsc::channel::<()>();
+    let watch = thread::spawn(move || {
+        if waits.recv_timeout(LONG) == Err(RecvTimeoutError::Timeout) {
+            let _ = Command::new("kill").arg(number).status();
         }
-        sleep(Duration::from_millis(1));
-    }
-    Ran::new(child.wait_with_output().expect("the command ended"))
+    });
+    let output = child.wait_with_output().expect("the command ends");
+    drop(done);
+    watch.join().expect("the watch ends");
+    output
 }
 
 /// Runs it by a shell, as `captions` followed by these words.

@@ -71,7 +71,11 @@ fn says_that_a_tape_is_empty() {
 #[track_caller]
 fn points(tape: &[u8], lines: usize, last: &str, message: &str) {
     let refusal = wrap(tape, &mut Workspace::new(), 4).expect_err("a refused tape");
-    let due = format!("refused {} at byte {}: ", refusal.number, refusal.place);
+    let due = format!(
+        "refused {} at byte {}: ",
+        refusal.cause.number(),
+        refusal.place
+    );
     assert!(message.starts_with(&due), "{refusal}");
     let ran = run(&["show"], tape);
     let listing = ran.text().to_string();

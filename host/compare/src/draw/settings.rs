@@ -49,17 +49,17 @@ impl Settings {
     }
 
     /// The settings as the proved calls take them.
-    pub fn words(&self) -> captions::raw::Settings {
-        [
-            self.width,
-            self.height,
-            u32::from_be_bytes(self.default_color),
-            u32::from_be_bytes(self.outline_color),
-            self.line_height,
-            self.bottom_margin,
-            self.outline,
-            self.alignment,
-        ]
+    pub fn raw(&self) -> captions::raw::Settings {
+        captions::raw::Settings {
+            width: self.width,
+            height: self.height,
+            default_color: u32::from_be_bytes(self.default_color),
+            outline_color: u32::from_be_bytes(self.outline_color),
+            line_height: self.line_height,
+            bottom_margin: self.bottom_margin,
+            outline: self.outline,
+            alignment: self.alignment,
+        }
     }
 
     /// Those that the original's compositor is told.

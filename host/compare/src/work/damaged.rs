@@ -7,7 +7,7 @@ use crate::random::Random;
 use crate::refusal::Tally;
 use crate::tape::letters::segments;
 use crate::work::call::{Ask, Call};
-use crate::work::record::{Record, STRIPES};
+use crate::work::record::{Record, STRIPES, Stripes};
 use crate::work::{due, generate};
 use reference::Original;
 

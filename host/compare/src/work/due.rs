@@ -5,7 +5,7 @@ use crate::refusal::{Refusal, plain};
 use crate::tape::letters::segments;
 use crate::tape::reading;
 use crate::work::call::{Ask, Call, Done, Outcome};
-use crate::work::record::Record;
+use crate::work::record::{Record, Stripes};
 use crate::work::theirs::Theirs;
 use reference::Original;
 

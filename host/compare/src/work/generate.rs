@@ -5,7 +5,7 @@ use crate::draw::settings::Settings;
 use crate::random::Random;
 use crate::tape::ROOM;
 use crate::work::job::Work;
-use crate::work::record::{Record, STRIPES};
+use crate::work::record::{Record, STRIPES, Stripes};
 use crate::wrap;
 
 /// Settings within their ranges, now and then of a picture with 64 stripes, and how high these are.

@@ -7,7 +7,7 @@ use crate::tape::ROOM;
 use crate::work::call::{Ask, Call, Done, Outcome};
 use crate::work::due;
 use crate::work::kinds::Kinds;
-use crate::work::record::{Record, STRIPES};
+use crate::work::record::{Record, STRIPES, Stripes};
 use crate::work::theirs::Theirs;
 use crate::wrap::cues::Cue;
 use reference::Original;

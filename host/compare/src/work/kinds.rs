@@ -3,7 +3,7 @@
 use crate::draw::settings::Settings;
 use crate::refusal::Tally;
 use crate::work::call::{Ask, Call, Done, Outcome};
-use crate::work::record::{Record, STRIPES};
+use crate::work::record::{Record, STRIPES, Stripes};
 use crate::work::theirs::Theirs;
 use std::collections::BTreeMap;
 

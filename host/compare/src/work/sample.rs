@@ -7,7 +7,7 @@ use crate::draw::settings::Settings;
 use crate::random::Random;
 use crate::tape::damage;
 use crate::work::call::{Ask, Call, Outcome};
-use crate::work::record::{Record, STRIPES};
+use crate::work::record::{Record, STRIPES, Stripes};
 use crate::work::theirs::Theirs;
 use crate::work::{due, generate};
 use reference::Original;

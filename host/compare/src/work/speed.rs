@@ -7,7 +7,7 @@ use crate::proved::{self, Buffers};
 use crate::tape::segments::MOST_LETTERS;
 use crate::tape::{ROOM, written};
 use crate::timing::{in_turn, micros};
-use crate::work::record::Record;
+use crate::work::record::{Record, Stripes};
 use crate::wrap;
 use std::fmt::Write;
 use std::hint::black_box;

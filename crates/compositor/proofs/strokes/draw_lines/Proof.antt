@@ -4,7 +4,7 @@ use native.Mathlib.Omega.{arith}
 use Rattle.font.specs.declared.BitmapFont.{BitmapFont}
 use Rattle.font.specs.Font.{tableOf}
 use Rattle.font.proofs.Rounding.{leans-back, shear-of}
-use Rattle.compositor.specs.Read.{strokesAt}
+use Rattle.compositor.specs.Read.{strokesAt, strokesIn}
 use Rattle.compositor.specs.Outline.{outlineOf}
 use Rattle.compositor.proofs.Painting.{nothing}
 use Rattle.compositor.proofs.Off.{lines-around, missing}
@@ -13,7 +13,7 @@ use Rattle.compositor.proofs.strokes.draw_lines.Statement.{statement}
 use Rattle.compositor.proofs.strokes.draw_lines.Tie as tie
 
 returns : tie.Need-returns
-unfolding strokesAt
+unfolding strokesIn strokesAt
 returns c =
     let start = c .before .before .before in
     let a = start .args in
@@ -35,6 +35,7 @@ is-off-requires : tie.Need-is-off-requires
 is-off-requires c κs = search needs
 
 returns-2 : tie.Need-returns-2
+unfolding strokesIn
 returns-2 c =
     let after-baseline2 = c .before .before .before in
     let after-baseline = after-baseline2 .before in
@@ -82,15 +83,16 @@ draw-each-line-requires c κs =
         bold-is = after-table2 .table2 .ensures ∙ ap (λ (f : BitmapFont). tableOf (f .bold)) (after-default-bold .default-bold .ensures);
         slanted-is = after-row-offsets .row-offsets .ensures ∙ rw (after-new .new .ensures, leans-back true);
       },
-      s .pre .1,
+      s .pre .1 .readable,
       s .pre .2,
-      s .pre .3,
+      s .pre .1 .few,
     )
 
 same-length : tie.Need-same-length
 same-length c = search needs
 
 returns-3 : tie.Need-returns-3
+unfolding strokesIn
 returns-3 c = c .before .before .draw-each-line .ensures
 
 pub draw-lines-spec : {M : Type 1} → statement M

@@ -4,7 +4,7 @@ use crate::options::{CHOICES, Options};
 use crate::output::{self, Failure, Outcome};
 use crate::progress::Progress;
 use crate::{args, fault, input};
-use captions::{Job, Refusal, STRIPES_MAX, Settings, Workspace, draw};
+use captions::{Cause, Job, Refusal, STRIPES_MAX, Settings, Workspace, draw};
 
 const ABOUT: &str = "\
 usage: captions burn [options] < cue.tape > frame.pam
@@ -17,9 +17,6 @@ or in stripes.
 An option is `--name VALUE` or `--name=VALUE`; of two the last counts. A color
 may have a # before it, and RRGGBB has alpha FF.
 ";
-
-const OUT_OF_RANGE: u8 = 8;
-const STRIPE_HEIGHT: u8 = 13;
 
 pub fn command(words: &[String]) -> Outcome {
     if args::asks_help(words) {
@@ -78,9 +75,9 @@ fn line(job: &Job, stripe: u32) -> String {
 }
 
 fn refused(options: &Options, tape: &[u8], refusal: Refusal) -> Failure {
-    match (refusal.number, options.stripes) {
-        (OUT_OF_RANGE, _) => fault::with_words(refusal, &options.out_of_range().join("; ")),
-        (STRIPE_HEIGHT, Some(rows)) => {
+    match (refusal.cause, options.stripes) {
+        (Cause::OutOfRange, _) => fault::with_words(refusal, &options.out_of_range().join("; ")),
+        (Cause::StripesUnfit, Some(rows)) => {
             let words = stripe_height(rows, options.settings.height);
             fault::with_words(refusal, &words)
         }

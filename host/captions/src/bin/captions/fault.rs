@@ -2,7 +2,7 @@
 
 use crate::output::Failure;
 use crate::tape::{Reader, number, width};
-use captions::{LETTERS_MAX, Refusal};
+use captions::{Cause, Command, LETTERS_MAX, Refusal};
 
 /// A refusal of which nothing more is known than the library says and the tape shows.
 pub fn failure(tape: &[u8], refusal: Refusal) -> Failure {
@@ -11,8 +11,9 @@ pub fn failure(tape: &[u8], refusal: Refusal) -> Failure {
 
 /// A refusal whose cause is said in these words.
 pub fn with_words(refusal: Refusal, words: &str) -> Failure {
-    let Refusal { number, place } = refusal;
-    Failure::Refused(match refusal.is_in_tape() {
+    let Refusal { cause, place } = refusal;
+    let number = cause.number();
+    Failure::Refused(match cause.is_in_tape() {
         true => format!("refused {number} at byte {place}: {words}"),
         false => format!("refused {number}: {words}"),
     })
@@ -31,25 +32,27 @@ pub fn bytes(tape: &[u8], refusal: Refusal) -> &[u8] {
 }
 
 pub fn words(tape: &[u8], refusal: Refusal) -> String {
-    precise(tape, refusal).unwrap_or_else(|| refusal.sentence().to_string())
+    precise(tape, refusal).unwrap_or_else(|| refusal.cause.sentence().to_string())
 }
 
 fn precise(tape: &[u8], refusal: Refusal) -> Option<String> {
-    if !refusal.is_in_tape() {
+    if !refusal.cause.is_in_tape() {
         return None;
     }
     let reader = Reader::at_end(before(tape, refusal));
     let Some((command, operands)) = bytes(tape, refusal).split_first() else {
         return end(&reader);
     };
-    Some(match refusal.number {
-        1 => format!("{command:02X} is not a command: commands are 00 to 0B"),
-        2 => missing(*command, operands.len()),
-        3 => "a 00 in the outer list".to_string(),
-        4 => no_letter(number(operands)),
-        5 => format!("the list that {command:02X} opens would lie deeper than 16 lists"),
-        6 => too_many(*command, &reader),
-        7 => in_name(*command, reader.name?),
+    Some(match refusal.cause {
+        Cause::UnknownCommand => format!("{command:02X} is not a command: commands are 00 to 0B"),
+        Cause::OperandsMissing => missing(*command, operands.len()),
+        Cause::Unbalanced => "a 00 in the outer list".to_string(),
+        Cause::NotAScalar => no_letter(number(operands)),
+        Cause::TooDeep => {
+            format!("the list that {command:02X} opens would lie deeper than 16 lists")
+        }
+        Cause::TooManyLetters => too_many(*command, &reader),
+        Cause::NotInAName => in_name(*command, reader.name?),
         _ => return None,
     })
 }
@@ -80,9 +83,9 @@ fn no_letter(code: u32) -> String {
 }
 
 fn too_many(command: u8, reader: &Reader) -> String {
-    // Of the commands that add letters, 00 is the end of a name.
-    let (with, added) = match command {
-        0x00 => ("with the \": \" of the name ", 2),
+    // Of the commands that add letters, an end is that of a name.
+    let (with, added) = match Command::of(command) {
+        Some(Command::End) => ("with the \": \" of the name ", 2),
         _ => ("", 1),
     };
     let letters = reader.letters.len() + added;

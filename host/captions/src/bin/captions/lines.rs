@@ -56,8 +56,8 @@ pub fn command(words: &[String]) -> Outcome {
 }
 
 fn refused(tape: &[u8], refusal: Refusal, columns: u32) -> Outcome {
-    let Refusal { number, place } = refusal;
-    output::write(format!("refused {number} {place}\n").as_bytes())?;
+    let Refusal { cause, place } = refusal;
+    output::write(format!("refused {} {place}\n", cause.number()).as_bytes())?;
     if (1..=COLUMNS_MAX).contains(&columns) {
         return Err(fault::failure(tape, refusal));
     }

@@ -3,9 +3,9 @@
 use crate::args::{self, Choice};
 use crate::hex::hex;
 use crate::output::{self, Outcome};
-use crate::tape::{Command, Entry, Reader};
+use crate::tape::{Entry, Meaning, Reader};
 use crate::{fault, input};
-use captions::{COLUMNS_MAX, Refusal, Workspace, wrap};
+use captions::{COLUMNS_MAX, Cause, Refusal, Workspace, wrap};
 
 const ABOUT: &str = "\
 usage: captions show < cue.tape
@@ -18,7 +18,6 @@ not listed.
 ";
 
 const CHOICES: [Choice<()>; 0] = [];
-const TOO_LONG: u8 = 10;
 
 pub fn command(words: &[String]) -> Outcome {
     if args::asks_help(words) {
@@ -34,7 +33,7 @@ pub fn command(words: &[String]) -> Outcome {
 }
 
 fn refused(tape: &[u8], refusal: Refusal) -> Outcome {
-    if refusal.number != TOO_LONG {
+    if refusal.cause != Cause::TapeTooLong {
         let listing = listing(fault::before(tape, refusal)) + &pointer(tape, refusal);
         output::write(listing.as_bytes())?;
     }
@@ -46,13 +45,17 @@ fn listing(tape: &[u8]) -> String {
 }
 
 fn line(entry: &Entry) -> String {
-    let words = "  ".repeat(entry.depth) + &words(entry.command);
+    let words = "  ".repeat(entry.depth) + &words(entry.meaning);
     row(' ', entry.offset, entry.bytes, &words)
 }
 
 fn pointer(tape: &[u8], refusal: Refusal) -> String {
-    let Refusal { number, place } = refusal;
-    let words = format!("refused {number}: {}", fault::words(tape, refusal));
+    let Refusal { cause, place } = refusal;
+    let words = format!(
+        "refused {}: {}",
+        cause.number(),
+        fault::words(tape, refusal)
+    );
     row('>', place, fault::bytes(tape, refusal), &words)
 }
 
@@ -60,20 +63,20 @@ fn row(mark: char, offset: usize, bytes: &[u8], words: &str) -> String {
     format!("{mark}{offset:>6}  {:<11}  {words}\n", hex(bytes))
 }
 
-fn words(command: Command) -> String {
-    match command {
-        Command::EndOfName => "end of the name, adds \": \"".to_string(),
-        Command::EndOfList(opener) => format!("end of the list that byte {opener} opened"),
-        Command::EmptyText => "empty text".to_string(),
-        Command::Letter(letter) => format!("letter {}", code_point(letter)),
-        Command::NameLetter(letter) => format!("letter of the name {}", code_point(letter)),
-        Command::Break => "break".to_string(),
-        Command::Bold => "bold".to_string(),
-        Command::Italic => "italic".to_string(),
-        Command::Color([red, green, blue]) => format!("color {red:02X}{green:02X}{blue:02X}"),
-        Command::Voice => "voice".to_string(),
-        Command::PlainGroup => "plain group".to_string(),
-        Command::TimeMark => "time mark".to_string(),
+fn words(meaning: Meaning) -> String {
+    match meaning {
+        Meaning::EndOfName => "end of the name, adds \": \"".to_string(),
+        Meaning::EndOfList(opener) => format!("end of the list that byte {opener} opened"),
+        Meaning::EmptyText => "empty text".to_string(),
+        Meaning::Letter(letter) => format!("letter {}", code_point(letter)),
+        Meaning::NameLetter(letter) => format!("letter of the name {}", code_point(letter)),
+        Meaning::Break => "break".to_string(),
+        Meaning::Bold => "bold".to_string(),
+        Meaning::Italic => "italic".to_string(),
+        Meaning::Color([red, green, blue]) => format!("color {red:02X}{green:02X}{blue:02X}"),
+        Meaning::Voice => "voice".to_string(),
+        Meaning::PlainGroup => "plain group".to_string(),
+        Meaning::TimeMark => "time mark".to_string(),
     }
 }
 

@@ -1,12 +1,11 @@
 //! The commands of a tape, and the letters that they say. What is admitted is for the library to
 //! decide: a reader is lent an admitted tape, or the part of one before the command at fault.
 
-/// How many operand bytes follow each of the commands 00 to 0B.
-const WIDTHS: [usize; 12] = [0, 0, 1, 2, 3, 0, 0, 0, 3, 0, 0, 0];
+use captions::Command;
 
-/// How many operand bytes follow a command; none where it is unknown.
-pub fn width(command: u8) -> usize {
-    WIDTHS.get(usize::from(command)).copied().unwrap_or(0)
+/// How many operand bytes follow a command's byte; none where it is unknown.
+pub fn width(byte: u8) -> usize {
+    Command::of(byte).map_or(0, Command::operands)
 }
 
 /// The number that operands spell, high byte first.
@@ -15,8 +14,9 @@ pub fn number(operands: &[u8]) -> u32 {
     operands.iter().fold(0, spelt)
 }
 
+/// What a command means where it stands.
 #[derive(Clone, Copy)]
-pub enum Command {
+pub enum Meaning {
     EndOfName,
     /// Of the list that the byte at this offset opened.
     EndOfList(usize),
@@ -32,12 +32,12 @@ pub enum Command {
     TimeMark,
 }
 
-impl Command {
+impl Meaning {
     fn letters(self) -> Vec<char> {
         match self {
-            Command::Letter(letter) | Command::NameLetter(letter) => vec![letter],
-            Command::Break => vec!['\n'],
-            Command::EndOfName => vec![':', ' '],
+            Meaning::Letter(letter) | Meaning::NameLetter(letter) => vec![letter],
+            Meaning::Break => vec!['\n'],
+            Meaning::EndOfName => vec![':', ' '],
             _ => Vec::new(),
         }
     }
@@ -50,7 +50,7 @@ pub struct Entry<'a> {
     pub bytes: &'a [u8],
     /// How many lists and names it stands in; an end stands as deep as its opener.
     pub depth: usize,
-    pub command: Command,
+    pub meaning: Meaning,
 }
 
 /// Reads commands one after the other, and knows where it stands between two.
@@ -83,44 +83,42 @@ impl<'a> Reader<'a> {
         reader
     }
 
-    /// What the command means where it stands.
-    fn command(&self, bytes: &[u8]) -> Option<Command> {
-        Some(match *bytes {
-            [0x00] if self.name.is_some() => Command::EndOfName,
-            [0x00] => Command::EndOfList(*self.lists.last()?),
-            [0x01] => Command::EmptyText,
-            [0x02..=0x04, ref operands @ ..] => self.letter(operands)?,
-            [0x05] => Command::Break,
-            [0x06] => Command::Bold,
-            [0x07] => Command::Italic,
-            [0x08, red, green, blue] => Command::Color([red, green, blue]),
-            [0x09] => Command::Voice,
-            [0x0a] => Command::PlainGroup,
-            [0x0b] => Command::TimeMark,
-            _ => return None,
+    fn meaning(&self, command: Command, operands: &[u8]) -> Option<Meaning> {
+        Some(match command {
+            Command::End if self.name.is_some() => Meaning::EndOfName,
+            Command::End => Meaning::EndOfList(*self.lists.last()?),
+            Command::Empty => Meaning::EmptyText,
+            Command::Letter1 | Command::Letter2 | Command::Letter3 => self.letter(operands)?,
+            Command::Break => Meaning::Break,
+            Command::Bold => Meaning::Bold,
+            Command::Italic => Meaning::Italic,
+            Command::Color => Meaning::Color(operands.try_into().ok()?),
+            Command::Voice => Meaning::Voice,
+            Command::Group => Meaning::PlainGroup,
+            Command::TimeMark => Meaning::TimeMark,
         })
     }
 
-    fn letter(&self, operands: &[u8]) -> Option<Command> {
+    fn letter(&self, operands: &[u8]) -> Option<Meaning> {
         let letter = char::from_u32(number(operands))?;
         Some(match self.name {
-            Some(_) => Command::NameLetter(letter),
-            None => Command::Letter(letter),
+            Some(_) => Meaning::NameLetter(letter),
+            None => Meaning::Letter(letter),
         })
     }
 
     /// Goes into the list or name that a command opens, or out of the one that it ends, and answers
     /// the command's depth.
-    fn follow(&mut self, command: Command) -> usize {
+    fn follow(&mut self, meaning: Meaning) -> usize {
         let depth = self.lists.len();
-        match command {
-            Command::Bold | Command::Italic | Command::Color(_) | Command::PlainGroup => {
+        match meaning {
+            Meaning::Bold | Meaning::Italic | Meaning::Color(_) | Meaning::PlainGroup => {
                 self.lists.push(self.offset);
             }
-            Command::Voice => self.name = Some(self.offset),
-            Command::EndOfName => self.lists.extend(self.name.take()),
-            Command::NameLetter(_) => return depth + 1,
-            Command::EndOfList(_) => {
+            Meaning::Voice => self.name = Some(self.offset),
+            Meaning::EndOfName => self.lists.extend(self.name.take()),
+            Meaning::NameLetter(_) => return depth + 1,
+            Meaning::EndOfList(_) => {
                 self.lists.pop();
                 return self.lists.len();
             }
@@ -136,16 +134,17 @@ impl<'a> Iterator for Reader<'a> {
     fn next(&mut self) -> Option<Entry<'a>> {
         let offset = self.offset;
         let rest = self.tape.get(offset..)?;
-        let bytes = rest.get(..1 + width(*rest.first()?))?;
-        let command = self.command(bytes)?;
-        let depth = self.follow(command);
-        self.letters.extend(command.letters());
+        let command = Command::of(*rest.first()?)?;
+        let bytes = rest.get(..1 + command.operands())?;
+        let meaning = self.meaning(command, bytes.get(1..)?)?;
+        let depth = self.follow(meaning);
+        self.letters.extend(meaning.letters());
         self.offset += bytes.len();
         Some(Entry {
             offset,
             bytes,
             depth,
-            command,
+            meaning,
         })
     }
 }

@@ -4,7 +4,7 @@ use crate::args::{self, Choice};
 use crate::hex::hex;
 use crate::input;
 use crate::output::{self, Failure, Outcome};
-use captions::LETTERS_MAX;
+use captions::{Command, LETTERS_MAX};
 use std::fs::File;
 use std::io::{self, BufReader, Bytes, Read};
 
@@ -83,7 +83,7 @@ impl Writer {
         self.letters += 1;
         self.after_return = letter == '\r';
         if letter == '\n' {
-            self.tape.push(0x05);
+            self.tape.push(Command::Break.byte());
             (self.line, self.column) = (self.line + 1, 1);
         } else {
             self.tape.extend(shortest(letter));
@@ -106,9 +106,9 @@ impl Writer {
 /// The shortest command that holds a letter's code point.
 fn shortest(letter: char) -> Vec<u8> {
     match u32::from(letter).to_be_bytes() {
-        [_, 0, 0, low] => vec![0x02, low],
-        [_, 0, middle, low] => vec![0x03, middle, low],
-        [_, high, middle, low] => vec![0x04, high, middle, low],
+        [_, 0, 0, low] => vec![Command::Letter1.byte(), low],
+        [_, 0, middle, low] => vec![Command::Letter2.byte(), middle, low],
+        [_, high, middle, low] => vec![Command::Letter3.byte(), high, middle, low],
     }
 }
 
