@@ -126,42 +126,43 @@ static inline captions_settings captions_settings_usual(uint32_t width, uint32_t
  * Why a call was refused. The place of 1 to 7 is the offset in the tape of the command at fault,
  * or the tape's length for a 3 at the tape's end; that of 8 to 14 is 0.
  *
- * Where more than one holds, the first in this order is told: 8, 9, 10, 11, 13; then the tape's
- * first fault, in one command the first of 1, 7, 5, 2, 4, 6; then 14, 12. A call checks what it
- * has: captions_wrap 8, 10, 11 and the tape, captions_draw 9 too, captions_open also 13, and
+ * They are looked for in the order 8, 9, 10, 11, 13, then the tape from its start, in each command
+ * 1, 7, 5, 2, 4, 6, 3, and then 14, 12. The first that is found is the answer. A call checks what
+ * it has: captions_wrap 8, 10, 11 and the tape, captions_draw 9 too, captions_open also 13, and
  * captions_work all.
  */
 enum captions_refusal {
-    /* A command over 0B. Place: its offset. */
+    /* The command is over 0B. Place: the command's. */
     CAPTIONS_UNKNOWN_COMMAND = 1,
-    /* The tape ends before a command's operands do. Place: the command's offset. */
+    /* The tape ends before the command's operands do. Place: the command's. */
     CAPTIONS_OPERANDS_MISSING = 2,
-    /* A 00 in the outer list; place: its offset. Or the tape ends in a list or a name; place: the
-       tape's length. */
+    /* A 00 in the outer list; or the tape ends in a list or a name. Place: the 00's;
+       the tape's length. */
     CAPTIONS_UNBALANCED = 3,
-    /* A code point that is a surrogate or over 10FFFF. Place: the letter's offset. */
+    /* The code point is a surrogate or over 10FFFF. Place: the letter's. */
     CAPTIONS_NOT_A_SCALAR = 4,
-    /* A list within 16 lists, the outer one not counted. Place: the offset of its command. */
+    /* A list inside sixteen others. Place: its command's. The outer list is not counted. */
     CAPTIONS_TOO_DEEP = 5,
-    /* Over CAPTIONS_LETTERS_MAX. Place: the offset of the letter or break that is too many, or of
-       the 00 after a voice's name where its ": " is. */
+    /* More than 4096 letters. Place: that of the command with one too many. That is a letter,
+       a break, or the 00 after a voice's name, which adds its ": ". */
     CAPTIONS_TOO_MANY_LETTERS = 6,
-    /* A known command within a name that is neither a letter nor 00. Place: its offset. */
+    /* In a voice's name, a command that is none of 00, 02, 03, 04. Place: the command's. */
     CAPTIONS_NOT_IN_A_NAME = 7,
-    /* A setting or the column limit is outside its range. Place: 0, as for all below. */
+    /* A setting, or Wrap's column limit, is out of its range. Place: 0, as for all below. */
     CAPTIONS_OUT_OF_RANGE = 8,
     /* The picture's buffer has under width * height * 4 bytes. */
     CAPTIONS_PICTURE_TOO_SHORT = 9,
-    /* The tape has over CAPTIONS_TAPE_MAX bytes. */
+    /* The tape has more than 16384 bytes. */
     CAPTIONS_TAPE_TOO_LONG = 10,
-    /* The workspace has under CAPTIONS_WORKSPACE_MIN bytes. */
+    /* The workspace has under 65536 bytes. */
     CAPTIONS_WORKSPACE_TOO_SHORT = 11,
-    /* Work on a stripe that the picture does not have. */
+    /* The picture has no such stripe. */
     CAPTIONS_NO_SUCH_STRIPE = 12,
-    /* A stripe height, given or in the record, that is 0 or makes over CAPTIONS_STRIPES_MAX
-       stripes. */
+    /* A stripe height of 0, or one that gives more than 64 stripes. It is Open's own, or stands in
+       Work's record. */
     CAPTIONS_STRIPES_UNFIT = 13,
-    /* A counter in the record is over T, or not 0 past the last stripe. */
+    /* A counter is over the number of strokes, or not 0 past the last stripe. The counter is one of
+       the record's, and the number T. */
     CAPTIONS_COUNTERS_UNSOUND = 14
 };
 

@@ -1,6 +1,6 @@
--- The records that a history from C is told with are the contracts of `captions_open` and `captions_work`: these ask nothing of their callers, and what
--- the check reads off their `ensures` clauses is `OpenAnswered` and `WorkAnswered` of what each was given and what it left. Other clauses are refused
--- here.
+-- The records that a history from C is told with are the contracts of `captions_open` and `captions_work`: these ask
+-- nothing of their callers, and what the check reads off their `ensures` clauses is `OpenAnswered` and `WorkAnswered`
+-- of what each was given and what it left. Other clauses are refused here.
 use mathlib.Core.Path.{_≡_, refl}
 use Prim.Native.Nat.{ℕ}
 use contract.Lifetimes.{Lfts}
@@ -13,7 +13,8 @@ use Rattle.captions.proofs.captions_open.Reads as open-reads
 use Rattle.captions.proofs.captions_work.Kinds as work-kinds
 use Rattle.captions.proofs.captions_work.Reads as work-reads
 
--- what is given: settings, tape, workspace, picture, stripe height and record; at exit the workspace, the picture and the record
+-- what is given: settings, tape, workspace, picture, stripe height and record; at exit the workspace, the picture and
+-- the record
 module _ (κs : Lfts 5) (a : Dens κs open-kinds.ps) where
   open-asks : open-reads.Pre κs a ≡ Unit {0}
   open-asks = refl

@@ -1,9 +1,10 @@
--- What the functions mean that programs written in the languages C and Rust call, over the contracts of the calls. Definitions only.
--- Each does what its call does, on the settings and the record that numbers stand for, and gives the call's answer as one number.
+-- What the functions mean that programs in C and Rust call, over the contracts of the calls. Definitions only.
+-- Each does what its call does, on the settings and the record that numbers stand for, and gives the call's answer as
+-- one number.
 use mathlib.Core.List.{List, _∷_}
 use Prim.Native.Nat.{ℕ}
 use lib.ListN.{getD, drop}
-use Rattle.font.specs.Blend.{colorBytes}
+use Rattle.font.specs.Colors.{colorBytes}
 use Rattle.tape.specs.Packed.{Numbered}
 use Rattle.wrap.specs.Wrapped.{Wrapped}
 use Rattle.compositor.specs.declared.Settings.{Settings}
@@ -36,18 +37,18 @@ wordsOf job = job .«stripe_height» ∷ job .counters
 
 -- Wrap: the workspace before and after, and the answer
 abbrev pub WrapAnswered : List ℕ → List ℕ → List ℕ → ℕ → ℕ → Type 0
-WrapAnswered tape before after limit answer = Numbered (Wrapped tape before after limit) answer
+WrapAnswered tape ws ws' L result = Numbered (Wrapped tape ws ws' L) result
 
 -- Draw: the picture's buffer before and after too
 abbrev pub DrawAnswered : List ℕ → Tapes → List ℕ → List ℕ → List ℕ → List ℕ → ℕ → Type 0
-DrawAnswered settings tape before after picture picture' answer = Numbered (Drawn (settingsOf settings) tape before after picture picture') answer
+DrawAnswered settings tape ws ws' picture picture' result = Numbered (Drawn (settingsOf settings) tape ws ws' picture picture') result
 
 -- Open with a division d: the record that it gives, as numbers, too
 abbrev pub OpenAnswered : List ℕ → Tapes → List ℕ → List ℕ → List ℕ → List ℕ → Division → List ℕ → ℕ → Type 0
-OpenAnswered settings tape before after picture picture' d words' answer =
-    Numbered (λ a. Opened (settingsOf settings) tape before after picture picture' d (record { answer = a; job = recordOf words' })) answer
+OpenAnswered settings tape ws ws' picture picture' d words' result =
+    Numbered (λ a. Opened (settingsOf settings) tape ws ws' picture picture' d (record { answer = a; job = recordOf words' })) result
 
 -- Work on stripe k with budget n: the record before and after
 abbrev pub WorkAnswered : List ℕ → Tapes → List ℕ → List ℕ → List ℕ → List ℕ → List ℕ → List ℕ → ℕ → ℕ → ℕ → Type 0
-WorkAnswered settings tape before after picture picture' words words' k n answer =
-    Numbered (λ a. Worked (settingsOf settings) tape before after picture picture' (recordOf words) k n (record { answer = a; job = recordOf words' })) answer
+WorkAnswered settings tape ws ws' picture picture' words words' k n result =
+    Numbered (λ a. Worked (settingsOf settings) tape ws ws' picture picture' (recordOf words) k n (record { answer = a; job = recordOf words' })) result

@@ -17,16 +17,16 @@ use Rattle.tape.specs.Tape.{mostBytes, leastRoom, tapeLetters}
 use Rattle.tape.proofs.Calls.{Bounded, refuse-bounded, weaken, Packs, packs}
 use Rattle.tape.proofs.Answers.{tape-bounded}
 use Rattle.wrap.specs.Lines.{wrapRuns}
-use Rattle.wrap.proofs.Once.{few-letters}
+use Rattle.wrap.proofs.EachLetterOnce.{few-letters}
 use Rattle.compositor.specs.declared.Settings.{Settings}
 use Rattle.compositor.specs.Settings.{outOfRange, pictureBytes}
 use Rattle.compositor.specs.Layout.{columnLimit}
 use Rattle.compositor.specs.Outline.{outlineOf}
-use Rattle.compositor.specs.Strokes.{Stroke, drawing}
+use Rattle.compositor.specs.Order.{Stroke, drawing}
 use Rattle.compositor.specs.Draw.{Tapes, tapeStrokes, cueCall}
 use Rattle.compositor.specs.Ready.{mostStrokes}
 use Rattle.compositor.proofs.Total.{total}
-use Rattle.compositor.proofs.Whole.{total-small}
+use Rattle.compositor.proofs.WrappedLines.{total-small}
 
 -- no more strokes than a caption has
 abbrev pub Few : List Stroke → Type 0
@@ -48,14 +48,14 @@ strokes-bounded s tape short = own (tapeLetters style tape) (tape-bounded style 
     own (refused number place) b = b
 
 -- a call has a number of its own to refuse
-pub cue-bounded : (s : Settings) (room size : ℕ) (tape : Tapes) (own most : ℕ) → 11 ≤ most → own ≤ most → Bounded Few most (cueCall s room size tape own)
+pub cue-bounded : (s : Settings) (room size : ℕ) (tape : Tapes) (extra most : ℕ) → 11 ≤ most → extra ≤ most → Bounded Few most (cueCall s room size tape extra)
 unfolding cueCall
-cue-bounded s room size tape own most l o =
+cue-bounded s room size tape extra most l o =
     refuse-bounded Few most (outOfRange s) 8 _ (lit≤ tt) (omega arith)
     (λ _. refuse-bounded Few most (ltb size (pictureBytes s)) 9 _ (lit≤ tt) (omega arith)
     (λ _. refuse-bounded Few most (ltb mostBytes (length tape)) 10 _ (lit≤ tt) (omega arith)
     (λ short. refuse-bounded Few most (ltb room leastRoom) 11 _ (lit≤ tt) (omega arith)
-    (λ _. by own o (weaken Few 7 Few most (omega arith) (λ ts few. few) (tapeStrokes s tape) (strokes-bounded s tape (ltb-false mostBytes (length tape) short)))))))
+    (λ _. by extra o (weaken Few 7 Few most (omega arith) (λ ts few. few) (tapeStrokes s tape) (strokes-bounded s tape (ltb-false mostBytes (length tape) short)))))))
   where
     by : (k : ℕ) → k ≤ most → Bounded Few most (tapeStrokes s tape) → Bounded Few most (unless k 0 (tapeStrokes s tape))
     by zero k b = b

@@ -6,20 +6,21 @@ use lib.IntN.{negsuc}
 use lib.ListN.{length, getD, replicate}
 use Rattle.font.specs.Blend.{blendByte, blendAlpha, blendOver, blendPixel}
 use Rattle.font.specs.Font.{embolden, tabulate, regularTable}
-use Rattle.font.specs.Stroke.{origin, paintColumn, paintColumns, strokeRow}
+use Rattle.font.specs.Paint.{origin, paintColumn, paintColumns, strokeRow}
 use Rattle.tape.specs.Outcome.{Outcome, accepted, refused, onAccepted}
 use Rattle.tape.specs.Style.{sameStyle}
 use Rattle.tape.specs.Command.{codePoint, isLetter, isOpener, isScalar, added, faultOf, commandOf}
 use Rattle.tape.specs.Runs.{mergeInto, lettersOf}
-use Rattle.tape.specs.Tape.{leastRoom, read, tapeRuns, tapeLetters}
+use Rattle.tape.specs.Tape.{leastRoom, read, tapeRuns, tapeLetters, tapeRead}
 use Rattle.tape.specs.Segments.{letterBytes, lettersBytes}
-use Rattle.wrap.specs.Lines.{Line, upFrom, withoutLast, visibleCols, logicalLines, tokenise, isSpaceToken, chunks, putChunks, place, putToken, putTokens, fill, wrapRuns}
+use Rattle.wrap.specs.Lines.{Line, upFrom, withoutLast, visibleCols, logicalLines, tokenise, isSpaceToken, chunks, putChunks, addOrBreak, putToken, putTokens, fill, wrapRuns}
+use Rattle.wrap.specs.Wrap.{wrapCall}
 use Rattle.wrap.proofs.Cases as Wrap
 use Rattle.compositor.specs.declared.Settings.{Settings}
 use Rattle.compositor.specs.Settings.{outOfRange}
 use Rattle.compositor.specs.Layout.{lastBaseLine, baseLine, lineStart}
-use Rattle.compositor.specs.Outline.{ringRow, ringRows, ring}
-use Rattle.compositor.specs.Strokes.{Stroke, glyphStrokes, lineStrokes, linesStrokes, drawing}
+use Rattle.compositor.specs.Outline.{displacementRow, displacementRows, displacements}
+use Rattle.compositor.specs.Order.{Stroke, glyphStrokes, lineStrokes, linesStrokes, drawing}
 use Rattle.compositor.specs.Picture.{strokesOn, rowAfter}
 use Rattle.compositor.specs.Draw.{tapeStrokes, cueCall, drawCall}
 use Rattle.compositor.specs.Plain.{plainStart}
@@ -61,7 +62,8 @@ Total outline tape n = onAccepted length (drawCall (settings 32 0 0 outline 0) l
 abbrev pub AB : List ℕ
 AB = lettersBytes (0x41 ∷ 0x42 ∷ [])
 
-pub record Cases : Type 0 where
+-- document 01's cases
+pub record Document01 : Type 0 where
   pub a : Makes 4 [] []
   pub b : Makes 4 (lettersBytes (0x41 ∷ 0x42 ∷ 0x43 ∷ 0x44 ∷ [])) ((0 ∷ 1 ∷ 2 ∷ 3 ∷ []) ∷ [])
   pub c : Makes 4 (lettersBytes (0x41 ∷ 0x42 ∷ 0x43 ∷ 0x44 ∷ 0x45 ∷ [])) ((0 ∷ 1 ∷ 2 ∷ 3 ∷ []) ∷ (4 ∷ []) ∷ [])
@@ -85,13 +87,16 @@ pub record Cases : Type 0 where
   pub k-last : Total 0 (0x04 ∷ 0x10 ∷ 0xff ∷ 0xff ∷ []) 1
   pub k-0c : Refuses (columns 4) 0 (0x0c ∷ []) 1 0
   pub l : Total 0 AB 2 × Total 1 AB 18 × Total 2 AB 34 × Total 9 AB 34
+
+-- some more
+pub record Cases : Type 0 where
   -- the order: each letter's outline and then the letter
   pub order :
       Strokes (λ t. getD (t .color) 0 0) (settings 32 0 0 1 0) 0 AB
       (0 ∷ 0 ∷ 0 ∷ 0 ∷ 0 ∷ 0 ∷ 0 ∷ 0 ∷ 255 ∷ 0 ∷ 0 ∷ 0 ∷ 0 ∷ 0 ∷ 0 ∷ 0 ∷ 0 ∷ 255 ∷ [])
   -- an outline of 2 is not filled
-  pub ring-2 :
-      ring 2
+  pub outline-2 :
+      displacements 2
       ≡ (0, 0) ∷ (1, 0) ∷ (2, 0) ∷ (3, 0) ∷ (4, 0) ∷ (0, 1) ∷ (4, 1) ∷ (0, 2) ∷ (4, 2) ∷ (0, 3) ∷ (4, 3)
       ∷ (0, 4) ∷ (1, 4) ∷ (2, 4) ∷ (3, 4) ∷ (4, 4) ∷ []
   -- a control has a cell of its own
@@ -123,18 +128,18 @@ pub record Cases : Type 0 where
       onAccepted (λ ts. rowAfter (settings 8 16 0 0 0) ts 1 1) (drawCall (settings 8 16 0 0 0) leastRoom 512 (0x02 ∷ 0x41 ∷ []))
       ≡ accepted (replicate 12 0 ++ (replicate 8 255 ++ replicate 12 0))
 
-pub cases : Cases
-unfolding cueCall tapeStrokes outOfRange drawing linesStrokes lineStrokes glyphStrokes ring ringRows ringRow lineStart baseLine rowAfter strokesOn strokeRow paintColumns paintColumn blendPixel blendOver blendByte blendAlpha tabulate regularTable wrapRuns visibleCols logicalLines tokenise isSpaceToken chunks putChunks place putToken putTokens fill withoutLast upFrom flatten tapeLetters tapeRuns read faultOf commandOf codePoint isLetter isOpener isScalar added mergeInto lettersOf sameStyle letterBytes
-cases =
+pub document-01 : Document01
+unfolding wrapCall tapeRead cueCall tapeStrokes outOfRange drawing linesStrokes lineStrokes glyphStrokes displacements displacementRows displacementRow lineStart baseLine rowAfter strokesOn strokeRow paintColumns paintColumn blendPixel blendOver blendByte blendAlpha tabulate regularTable wrapRuns visibleCols logicalLines tokenise isSpaceToken chunks putChunks addOrBreak putToken putTokens fill withoutLast upFrom flatten tapeLetters tapeRuns read faultOf commandOf codePoint isLetter isOpener isScalar added mergeInto lettersOf sameStyle letterBytes
+document-01 =
     record {
-      a = (Wrap.cases .a, refl);
-      b = (Wrap.cases .b, refl);
-      c = (Wrap.cases .c, refl);
-      d = (Wrap.cases .d, refl);
-      e = (Wrap.cases .e, refl);
-      f = (Wrap.cases .f, refl);
-      g = (Wrap.cases .g, refl);
-      g-without = (Wrap.cases .g-without, refl);
+      a = (refl, refl);
+      b = (refl, refl);
+      c = (refl, refl);
+      d = (refl, refl);
+      e = (refl, refl);
+      f = (refl, refl);
+      g = (refl, refl);
+      g-without = (refl, refl);
       h = (refl, refl);
       i = (refl, refl);
       j = refl;
@@ -145,8 +150,14 @@ cases =
       k-last = refl;
       k-0c = refl;
       l = (refl, refl, refl, refl);
+    }
+
+pub cases : Cases
+unfolding cueCall tapeStrokes outOfRange drawing linesStrokes lineStrokes glyphStrokes displacements displacementRows displacementRow lineStart baseLine rowAfter strokesOn strokeRow paintColumns paintColumn blendPixel blendOver blendByte blendAlpha tabulate regularTable wrapRuns visibleCols logicalLines tokenise isSpaceToken chunks putChunks addOrBreak putToken putTokens fill withoutLast upFrom flatten tapeLetters tapeRuns read faultOf commandOf codePoint isLetter isOpener isScalar added mergeInto lettersOf sameStyle letterBytes
+cases =
+    record {
       order = refl;
-      ring-2 = refl;
+      outline-2 = refl;
       control-cell = refl;
       base-lines = refl;
       stops = (refl, refl, refl);

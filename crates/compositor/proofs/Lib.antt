@@ -1,15 +1,17 @@
--- Document 01's cases; laws of strokes and of the definitions; what each step of the code comes to; how far the call's outcome goes.
-pub mod Cases
-pub mod Painting
-pub mod Outlines
-pub mod Ranges
-pub mod Reading
-pub mod Held
-pub mod Total
-pub mod Off
-pub mod Cleared
-pub mod Whole
-pub mod Checks
-pub mod Admitted
-pub mod Answers
-pub mod Plain
+-- Document 01's cases; laws of strokes and of the definitions; what each step of the code comes to; how far the call's
+-- outcome goes.
+pub mod Cases  -- document 01's cases a to l in one table, and some more, by computation
+pub mod Painting  -- strokes on lent rows: one list after the other, and a window on them
+pub mod Outlines  -- the outline: its displacements one by one, and how many they are
+pub mod Ranges  -- settings within their range, and the bounds of positions
+pub mod ReadBack  -- letters and lines read back from the workspace, one after the other
+pub mod WorkspaceHolds  -- lines read back from the workspace are those that the letters make
+pub mod Total  -- the law: T is the letters on lines times (1 + 8o)
+pub mod LinesOff  -- lines whose strokes all miss the lent rows
+pub mod ClearedPicture  -- strokes on a picture that was cleared
+pub mod WrappedLines  -- letters that were wrapped: their lines can be read, and drawn they are the drawing
+pub mod Checks  -- what is checked before a tape is read, and how a call goes on
+pub mod AcceptedCalls  -- a call that is accepted: what is then known, and what other calls come to
+pub mod Answers  -- for the layers above: how far the outcome of a call goes
+pub mod Plain  -- document 01's signed formulas for lines, and sums of signed numbers
+pub mod PlainStrokes  -- strokes, offsets and displacements in signed numbers

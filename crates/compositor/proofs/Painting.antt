@@ -8,13 +8,13 @@ use borrow.Author.Tests.{leb-true, le-leb, ne-eqb}
 use lib.Dec.{eqb, leb}
 use lib.ListN.{length, take, drop, length-append, length-take, drop-of-length-le}
 use lib.Seq.{slice, take-nil}
-use Rattle.font.specs.Stroke.{eachRow}
+use Rattle.font.specs.Paint.{eachRow}
 use Rattle.font.proofs.Rows.{rows-then, rows-kept, stroke-length}
 use Rattle.font.specs.declared.paint.Rows.{Rows}
 use Rattle.compositor.specs.declared.strokes.Window.{Window}
-use Rattle.compositor.specs.Strokes.{Stroke}
+use Rattle.compositor.specs.Order.{Stroke}
 use Rattle.compositor.specs.Picture.{strokeOn, strokesOn}
-use Rattle.font.specs.Places.{Lent}
+use Rattle.font.specs.Lent.{Lent}
 use Rattle.compositor.specs.Painting.{cut, misses, after, painted, Painted}
 
 -- ---- on a row
@@ -23,7 +23,7 @@ pub strokes-length : (ts : List Stroke) (y : ℕ) (row : List ℕ) → length (s
 unfolding strokesOn
 strokes-length [] y row = refl
 strokes-length (t ∷ ts) y row =
-    strokes-length ts y (strokeOn t y row) ∙ stroke-length (t .glyph) (t .offsets) (t .color) (t .x) (t .base) y row
+    strokes-length ts y (strokeOn t y row) ∙ stroke-length (t .rows) (t .offsets) (t .color) (t .x) (t .base) y row
 
 pub strokes-append : (a b : List Stroke) (y : ℕ) (row : List ℕ) → strokesOn (a ++ b) y row ≡ strokesOn b y (strokesOn a y row)
 unfolding strokesOn

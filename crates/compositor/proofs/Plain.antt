@@ -1,37 +1,71 @@
--- THE LAW: document 01's signed formulas are `lineStart` and `baseLine`, less the origin.
-use mathlib.Core.Path.{_≡_, _∙_, refl, sym, ap}
+-- Document 01's signed formulas are `lineStart` and `baseLine`, less the origin; and the sums and differences of signed numbers that laws about
+-- positions need.
+use mathlib.Core.Path.{_≡_, _∙_, refl, sym, ap, ap₂}
 use mathlib.Core.Bool.{Bool, true, false, cond}
 use Prim.Native.Nat.{ℕ, zero, suc, _+_, _-_, _*_, _/_, _≤_, _<_}
 use native.Mathlib.Omega.{arith}
 use borrow.Author.Tests.{lt-ltb, le-ltb, ltb-true, ltb-false}
 use lib.Dec.{ltb, eqb, leb}
-use lib.IntN.{ℤ, pos, negsuc, negℤ, subℕ, _-ℤ_}
-use Rattle.font.specs.Stroke.{origin}
+use lib.IntN.{ℤ, pos, negsuc, negℤ, subℕ, _+ℤ_, _-ℤ_}
+use Rattle.font.specs.Paint.{origin}
 use Rattle.compositor.specs.declared.Settings.{Settings}
 use Rattle.compositor.specs.Layout.{lineHeight, lastBaseLine, baseLine, sideMargin, lineStart}
-use Rattle.compositor.specs.Plain.{half, plainStart, plainBaseLine}
+use Rattle.compositor.specs.Plain.{signed, half, plainStart, plainBaseLine}
 
 -- ---- a − b of two naturals
 
-from-above : (a b : ℕ) → b ≤ a → subℕ a b ≡ pos (a - b)
+pub from-above : (a b : ℕ) → b ≤ a → subℕ a b ≡ pos (a - b)
 from-above a b h = rw (le-ltb a b h)
 
-from-below : (a b : ℕ) → a < b → subℕ a b ≡ negsuc (b - suc a)
+pub from-below : (a b : ℕ) → a < b → subℕ a b ≡ negsuc (b - suc a)
 from-below a b h = rw (lt-ltb a b h)
 
-is-sub : (a b : ℕ) → pos a -ℤ pos b ≡ subℕ a b
+pub is-sub : (a b : ℕ) → pos a -ℤ pos b ≡ subℕ a b
 is-sub a zero = let e : a + 0 ≡ a - 0 = omega arith in ap pos e ∙ sym (from-above a 0 (omega arith))
 is-sub a (suc b) = refl
 
 -- by which of the two is the larger
-by-size : (a b : ℕ) (P : Type 0) → (b ≤ a → P) → (a < b → P) → P
+pub by-size : (a b : ℕ) (P : Type 0) → (b ≤ a → P) → (a < b → P) → P
 by-size a b P p q = go (ltb a b) refl
   where
     go : (t : Bool) → ltb a b ≡ t → P
     go true e = q (ltb-true a b e)
     go false e = p (ltb-false a b e)
 
--- a place less the origin
+-- it depends on nothing else
+pub sub-same : (a b c d : ℕ) → a + d ≡ c + b → subℕ a b ≡ subℕ c d
+sub-same a b c d e =
+    by-size a b _
+    (λ k. let m : a - b ≡ c - d = omega arith in from-above a b k ∙ ap pos m ∙ sym (from-above c d (omega arith)))
+    (λ k. let m : b - suc a ≡ d - suc c = omega arith in from-below a b k ∙ ap negsuc m ∙ sym (from-below c d (omega arith)))
+
+-- the sum of two differences
+pub add-sub : (a b c d : ℕ) → subℕ a b +ℤ subℕ c d ≡ subℕ (a + c) (b + d)
+add-sub a b c d =
+    by-size a b _
+    (λ k. by-size c d _
+    (λ l. let e : a - b + (c - d) ≡ a + c - (b + d) = omega arith in both (from-above a b k) (from-above c d l) ∙ ap pos e ∙ sym (from-above (a + c) (b + d) (omega arith)))
+    (λ l. both (from-above a b k) (from-below c d l) ∙ sub-same (a - b) (suc (d - suc c)) (a + c) (b + d) (omega arith)))
+    (λ k. by-size c d _
+    (λ l. both (from-below a b k) (from-above c d l) ∙ sub-same (c - d) (suc (b - suc a)) (a + c) (b + d) (omega arith))
+    (λ l. let e : suc (b - suc a + (d - suc c)) ≡ b + d - suc (a + c) = omega arith in
+    both (from-below a b k) (from-below c d l) ∙ ap negsuc e ∙ sym (from-below (a + c) (b + d) (omega arith))))
+  where
+    both : {u v x y : ℤ} → u ≡ x → v ≡ y → u +ℤ v ≡ x +ℤ y
+    both p q = ap₂ (λ (u v : ℤ). u +ℤ v) p q
+
+-- a number less a difference
+pub minus-sub : (n b o : ℕ) → pos n -ℤ subℕ b o ≡ subℕ (n + o) b
+minus-sub n b o =
+    by-size b o _
+    (λ k. ap (λ (z : ℤ). pos n -ℤ z) (from-above b o k) ∙ is-sub n (b - o) ∙ sub-same n (b - o) (n + o) b (omega arith))
+    (λ k. let e : n + suc (o - suc b) ≡ n + o - b = omega arith in
+    ap (λ (z : ℤ). pos n -ℤ z) (from-below b o k) ∙ ap pos e ∙ sym (from-above (n + o) b (omega arith)))
+
+-- a position, counted from the picture's corner
+pub is-signed : (p : ℕ) → signed p ≡ subℕ p origin
+is-signed p = is-sub p origin
+
 placed : (a b : ℕ) → b ≤ origin → pos (origin + a - b) -ℤ pos origin ≡ subℕ a b
 placed a b h =
     by-size a b _
@@ -87,7 +121,7 @@ twice a b c =
 -- ---- the law
 
 module _ (s : Settings) where
-  pub start-plain : (w : ℕ) → w + sideMargin ≤ origin → pos (lineStart s w) -ℤ pos origin ≡ plainStart s w
+  pub start-plain : (w : ℕ) → w + sideMargin ≤ origin → signed (lineStart s w) ≡ plainStart s w
   unfolding lineStart
   start-plain w h = by (eqb (s .align) 0) (leb (s .align) 2)
     where
@@ -103,6 +137,6 @@ module _ (s : Settings) where
           let e : origin + s .width - w - sideMargin ≡ origin + s .width - (w + sideMargin) = omega arith in
           ap (λ (m : ℕ). pos m -ℤ pos origin) e ∙ placed (s .width) (w + sideMargin) h ∙ twice (s .width) w sideMargin
 
-  pub base-plain : (below : ℕ) → below * lineHeight s ≤ origin → pos (baseLine s below) -ℤ pos origin ≡ plainBaseLine s below
+  pub base-plain : (below : ℕ) → below * lineHeight s ≤ origin → signed (baseLine s below) ≡ plainBaseLine s below
   unfolding baseLine
   base-plain below h = placed (lastBaseLine s) (below * lineHeight s) h ∙ sym (is-sub (lastBaseLine s) (below * lineHeight s))

@@ -1,4 +1,4 @@
--- What is in range, and the bounds of places.
+-- What is in range, and the bounds of positions.
 use mathlib.Core.Path.{_≡_, refl}
 use mathlib.Core.Bool.{Bool, true, false, _||_, true≢false}
 use Prim.Native.Nat.{ℕ, _*_, _≤_}
@@ -6,9 +6,10 @@ use native.Mathlib.Nat.{mul-le-mul}
 use native.Mathlib.Omega.{arith}
 use borrow.Author.Tests.{ltb-false}
 use lib.Dec.{ltb}
+use Rattle.tape.specs.Command.{mostLetters}
 use Rattle.compositor.specs.declared.Settings.{Settings}
 use Rattle.compositor.specs.Settings.{mostPixels, mostLineHeight, lastAlign, outOfRange, rowBytes, pictureBytes}
-use Rattle.compositor.specs.Ready.{InRange}
+use Rattle.compositor.specs.Ready.{InRange, mostPicture, mostRise}
 
 pub in-range : (s : Settings) → outOfRange s ≡ false → InRange s
 unfolding outOfRange
@@ -27,14 +28,11 @@ in-range s e =
     by false true c d p q r e = absurd (true≢false e)
     by false false true d p q r e = absurd (true≢false e)
 
--- the picture has at most 2^26 bytes
-pub picture-small : (s : Settings) → InRange s → pictureBytes s ≤ 67108864
+pub picture-small : (s : Settings) → InRange s → pictureBytes s ≤ mostPicture
 picture-small s r =
     let n = r .narrow in
-    let wide : rowBytes s ≤ 16384 = omega arith in
-    let p : pictureBytes s ≤ 4096 * 16384 = mul-le-mul (r .low) wide in
-    omega arith
+    let wide : rowBytes s ≤ 4 * mostPixels = omega arith in
+    mul-le-mul (r .low) wide
 
--- lines reach at most 2^22 rows up
-pub rise : (below h : ℕ) → below ≤ 4096 → h ≤ 1024 → below * h ≤ 4194304
-rise below h p q = let r : below * h ≤ 4096 * 1024 = mul-le-mul p q in omega arith
+pub rise : (below h : ℕ) → below ≤ mostLetters → h ≤ mostLineHeight → below * h ≤ mostRise
+rise below h p q = mul-le-mul p q

@@ -9,16 +9,16 @@ use Rattle.tape.specs.Runs.{Letter}
 use Rattle.wrap.specs.Lines.{Line, letterOf, visibleCols, wrapRuns}
 use Rattle.compositor.specs.declared.Settings.{Settings}
 use Rattle.compositor.specs.Layout.{columnLimit, baseLine, lineWidth, lineStart}
-use Rattle.compositor.specs.Outline.{outlineOf, ring}
-use Rattle.compositor.specs.Strokes.{stroke, outlineStrokes, glyphStrokes, letterStrokes, lineStrokes, linesStrokes, drawing}
-use Rattle.compositor.proofs.Outlines.{ring-length}
+use Rattle.compositor.specs.Outline.{outlineOf, displacements}
+use Rattle.compositor.specs.Order.{stroke, outlineStrokes, glyphStrokes, letterStrokes, lineStrokes, linesStrokes, drawing}
+use Rattle.compositor.proofs.Outlines.{displacements-length}
 
 glyph-length : (glyph offsets k own : List ℕ) (o x base : ℕ) → length (glyphStrokes glyph offsets k own o x base) ≡ 1 + 8 * o
 unfolding glyphStrokes
 glyph-length glyph offsets k own o x base =
-    let n = ring-length o in
-    let m = length-map (ring o) (λ d. stroke glyph offsets k (x + d .0 - o) (base + d .1 - o)) in
-    length-append (outlineStrokes glyph offsets k o x base (ring o)) (stroke glyph offsets own x base ∷ []) ∙ omega arith
+    let n = displacements-length o in
+    let m = length-map (displacements o) (λ d. stroke glyph offsets k (x + d .0 - o) (base + d .1 - o)) in
+    length-append (outlineStrokes glyph offsets k o x base (displacements o)) (stroke glyph offsets own x base ∷ []) ∙ omega arith
 
 module _ (s : Settings) where
   abbrev each : ℕ

@@ -1,10 +1,11 @@
 -- WHERE LINES STAND: document 01, "Places and strokes", first paragraph. Definitions only.
--- A place is counted from an origin far left of and above the picture (`origin`, of the part Stroke), so that it is never negative.
+-- A position is counted from an origin far left of and above the picture (`origin`, of the part Paint), so that it is
+-- never negative.
 use mathlib.Core.Bool.{cond}
 use Prim.Native.Nat.{ℕ, _+_, _-_, _*_, _/_, min, max}
 use lib.Dec.{eqb, leb}
 use Rattle.font.specs.Font.{cellW, cellH, bearingY}
-use Rattle.font.specs.Stroke.{origin}
+use Rattle.font.specs.Paint.{origin}
 use Rattle.compositor.specs.declared.Settings.{Settings}
 
 -- L, the most columns of a line
@@ -15,16 +16,17 @@ columnLimit s = max 1 (s .width / cellW)
 abbrev pub lineHeight : Settings → ℕ
 lineHeight s = max (s .«line_height_px») cellH
 
--- the picture's row on which the last line's base line stands, 4 rows above the bottom margin, for so many rows of a cell are below it; each
--- subtraction stops at 0
+-- the picture's row on which the last line's base line stands: above the bottom margin by the rows of a cell from its
+-- base line on, or by a whole cell if that is less; here these are 4. Each of the two subtractions stops at 0, so that
+-- the base line never stands above row 0
 abbrev pub lastBaseLine : Settings → ℕ
 lastBaseLine s = s .height - s .«bottom_margin_px» - min (cellH - bearingY) cellH
 
--- the place of the base line of the line that has so many lines below it: each line above stands h higher
+-- the position of the base line of the line that has so many lines below it: each line above stands h higher
 unfoldable pub baseLine : Settings → ℕ → ℕ
 baseLine s below = origin + lastBaseLine s - below * lineHeight s
 
--- how far a line of the left and of the right stays from the picture's side
+-- how far a line that is aligned left or right stays from that side of the picture
 abbrev pub sideMargin : ℕ
 sideMargin = 8
 
@@ -32,8 +34,9 @@ sideMargin = 8
 abbrev pub lineWidth : ℕ → ℕ
 lineWidth columns = columns * cellW
 
--- Where a line of w pixels starts: left and start alike, and right and end alike. In the centre that is half of what is left, towards zero:
--- of the two quotients one is 0, the first where the line is the wider, the second where the picture is.
+-- The position at which a line of w pixels starts: left and start alike, and right and end alike. In the centre it
+-- is half of width − w, towards zero: of the two quotients one is 0, the first where the line is the wider, the second
+-- where the picture is.
 unfoldable pub lineStart : Settings → ℕ → ℕ
 lineStart s w =
     cond (eqb (s .align) 0) (origin + (s .width - w) / 2 - (w - s .width) / 2)

@@ -1,9 +1,9 @@
--- The definitions in reading order, with the contract of the call; then the promises that the crate's functions make to each other, and to those
--- of the crates above.
+-- The definitions in reading order, with the contract of the call; then the promises that the crate's functions make to
+-- each other, and to those of the crates above.
 pub mod Settings
 pub mod Layout
 pub mod Outline
-pub mod Strokes
+pub mod Order
 pub mod Picture
 pub mod Draw
 pub mod Drawn

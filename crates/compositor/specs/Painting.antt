@@ -8,13 +8,13 @@ use lib.ListN.{length}
 use lib.Seq.{slice}
 use Rattle.font.specs.Font.{cellH, bearingY, tableOf}
 use Rattle.font.specs.Slant.{rowOffsets}
-use Rattle.font.specs.Stroke.{origin, eachRow}
+use Rattle.font.specs.Paint.{origin, eachRow}
 use Rattle.font.specs.Shear.{penGlyph, penOffsets}
 use Rattle.font.specs.declared.Pen.{Pen}
 use Rattle.font.specs.declared.paint.Rows.{Rows}
 use Rattle.font.specs.declared.paint.Spot.{Spot}
 use Rattle.compositor.specs.declared.strokes.Window.{Window}
-use Rattle.compositor.specs.Strokes.{Stroke, stroke, outlineStrokes}
+use Rattle.compositor.specs.Order.{Stroke, stroke, outlineStrokes}
 use Rattle.compositor.specs.Picture.{strokesOn}
 
 -- a spot that is not too far off, for a glyph and its outline
@@ -48,7 +48,8 @@ after w n = record { from = w .from - n; to = w .to - n }
 abbrev pub misses : Window → ℕ → Bool
 misses w n = leb n (w .from) || eqb (w .to) 0
 
--- glyphs on base lines from place `high` down to place `low`, and outlines of o around them, are all above the lent rows, or all below them
+-- glyphs on base lines from position `high` down to position `low`, and outlines of o around them, are all above the
+-- lent rows, or all below them
 unfoldable pub offRows : Rows → ℕ → ℕ → ℕ → Bool
 offRows rows high low o =
     leb (low + o + (cellH - bearingY)) (origin + rows .first) || leb (origin + rows .first + rows .count + o + bearingY) high

@@ -2,14 +2,14 @@
 use mathlib.Core.List.{List, [], _∷_, _++_}
 use Prim.Native.Nat.{ℕ, _*_}
 use lib.ListN.{take, drop, replicate}
-use Rattle.font.specs.Stroke.{strokeRow, eachRow}
+use Rattle.font.specs.Paint.{strokeRow, eachRow}
 use Rattle.compositor.specs.declared.Settings.{Settings}
 use Rattle.compositor.specs.Settings.{rowBytes, pictureBytes}
-use Rattle.compositor.specs.Strokes.{Stroke}
+use Rattle.compositor.specs.Order.{Stroke}
 
 -- the picture's row y with what a stroke has there
 abbrev pub strokeOn : Stroke → ℕ → List ℕ → List ℕ
-strokeOn t y row = strokeRow (t .glyph) (t .offsets) (t .color) (t .x) (t .base) y row
+strokeOn t y row = strokeRow (t .rows) (t .offsets) (t .color) (t .x) (t .base) y row
 
 -- with stroke after stroke
 unfoldable pub strokesOn : List Stroke → ℕ → List ℕ → List ℕ
@@ -20,14 +20,11 @@ strokesOn (t ∷ ts) y row = strokesOn ts y (strokeOn t y row)
 unfoldable pub rowAfter : Settings → List Stroke → ℕ → ℕ → List ℕ
 rowAfter s ts c y = strokesOn (take c ts) y (replicate (rowBytes s) 0)
 
--- the picture's buffer, which held `bytes`, with every row as the first c strokes leave it; the bytes after the picture stay
+-- the picture's buffer, which held `bytes`, with every row as the first c strokes leave it on zeros: what the picture's
+-- rows held before is not looked at, and the bytes after the picture stay
 abbrev pub pictureAfter : Settings → List Stroke → ℕ → List ℕ → List ℕ
 pictureAfter s ts c bytes = eachRow (λ y row. rowAfter s ts c y) (rowBytes s) (s .height) 0 bytes
 
--- the picture's buffer with its picture zeroed: for stripes
+-- the picture's buffer with its picture zeroed, as Open leaves it
 abbrev pub cleared : Settings → List ℕ → List ℕ
 cleared s bytes = replicate (pictureBytes s) 0 ++ drop (pictureBytes s) bytes
-
--- row y of a picture's buffer: for claims
-abbrev pub rowOf : Settings → List ℕ → ℕ → List ℕ
-rowOf s bytes y = take (rowBytes s) (drop (y * rowBytes s) bytes)

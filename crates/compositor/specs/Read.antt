@@ -9,7 +9,7 @@ use Rattle.tape.specs.Tape.{leastRoom}
 use Rattle.wrap.specs.Laid.{numberAt, lettersOn, columnsOn}
 use Rattle.compositor.specs.declared.Settings.{Settings}
 use Rattle.compositor.specs.Layout.{baseLine, lineWidth, lineStart}
-use Rattle.compositor.specs.Strokes.{Stroke, lineStrokes}
+use Rattle.compositor.specs.Order.{Stroke, lineStrokes}
 
 -- n letters on lines from the k-th on
 unfoldable pub lettersAt : List ℕ → ℕ → ℕ → List Letter

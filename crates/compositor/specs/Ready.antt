@@ -1,4 +1,5 @@
--- Promises: what the calls' functions ask of and tell each other, and those of the crates above. No reader of the deposit needs this file.
+-- Promises: what the calls' functions ask of and tell each other, and those of the crates above. No reader of the
+-- deposit needs this file.
 use mathlib.Core.Path.{_≡_}
 use mathlib.Core.Bool.{true}
 use mathlib.Core.List.{List}
@@ -8,11 +9,14 @@ use Rattle.tape.specs.Outcome.{Outcome, accepted, refused, unless}
 use Rattle.tape.specs.Call.{keepsWorkspace}
 use Rattle.tape.specs.Command.{mostLetters}
 use Rattle.tape.specs.Tape.{mostBytes, leastRoom}
+use Rattle.font.specs.Font.{cellW}
+use Rattle.wrap.specs.Laid.{twoByteNumbers}
+pub use Rattle.wrap.specs.Laid.{mostLines}
 use Rattle.compositor.specs.declared.Settings.{Settings}
 use Rattle.compositor.specs.declared.Cue.{Cue}
 use Rattle.compositor.specs.Settings.{mostPixels, mostLineHeight, pictureBytes}
 use Rattle.compositor.specs.Outline.{mostOutline}
-use Rattle.compositor.specs.Strokes.{Stroke}
+use Rattle.compositor.specs.Order.{Stroke}
 use Rattle.compositor.specs.Draw.{Tapes, tapeStrokes, cueCall}
 use Rattle.compositor.specs.Read.{lettersFrom, strokesIn, Readable}
 
@@ -31,17 +35,30 @@ pub record Admitted (s : Settings) (tape room size : ℕ) : Type 0 where
   pub short : tape ≤ mostBytes
   pub enough : leastRoom ≤ room
 
--- the number `fault` says what a call refuses that has `own` to refuse besides; 0 is nothing
-pub record Checked (s : Settings) (tape : Tapes) (room size own fault : ℕ) : Type 0 where
-  pub refuses : cueCall s room size tape own ≡ unless fault 0 (tapeStrokes s tape)
+-- the number `fault` says what a call refuses that has `extra` to refuse besides; 0 is nothing
+pub record Checked (s : Settings) (tape : Tapes) (room size extra fault : ℕ) : Type 0 where
+  pub refuses : cueCall s room size tape extra ≡ unless fault 0 (tapeStrokes s tape)
   pub fine : fault ≡ 0 → Admitted s (length tape) room size
+
+-- ---- how far positions go
+
+-- the most bytes of a picture, and the most rows between the base lines of a caption's first line and its last
+abbrev pub mostPicture : ℕ
+mostPicture = mostPixels * (4 * mostPixels)
+
+abbrev pub mostRise : ℕ
+mostRise = mostLetters * mostLineHeight
+
+-- no line of the table has so many pixels, since its columns are a number in two bytes; and none starts further left
+abbrev pub tooWide : ℕ
+tooWide = twoByteNumbers * cellW
+
+abbrev pub leastStart : ℕ
+leastStart = 0x10_0000
 
 -- ---- a caption that lies in the workspace, wrapped
 
--- the most lines of a caption, and the most strokes
-abbrev pub mostLines : ℕ
-mostLines = mostLetters + 1
-
+-- the most strokes of a caption
 abbrev pub mostStrokes : ℕ
 mostStrokes = mostLetters * (1 + 8 * mostOutline)
 
@@ -57,7 +74,8 @@ pub record CueLaid (s : Settings) (o : Outcome (List Stroke)) (ws' : List ℕ) (
   pub counts : total ≡ length (strokesIn s ws' lines)
   pub few : total ≤ mostStrokes
 
--- a call that comes to the outcome o has read its tape so far: the caption lies in the workspace, or the call is refused
+-- a call that comes to the outcome o has read its tape so far: the caption lies in the workspace, or the call is
+-- refused
 abbrev pub CueRead : Settings → Outcome (List Stroke) → List ℕ → List ℕ → Cue → Type 0
 CueRead s o ws ws' (Cue.Laid lines total) = CueLaid s o ws' lines total
 CueRead s o ws ws' (Cue.Refused number place) = (o ≡ refused number place) × (keepsWorkspace number ≡ true → ws' ≡ ws)

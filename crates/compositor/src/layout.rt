@@ -1,11 +1,14 @@
-// Where lines stand. Places are counted from the font's origin.
+// Where lines stand. Positions are counted from the font's origin.
 ghost use mathlib.Core.Path.{_≡_};
-ghost use Prim.Native.Nat.{_+_, _-_, _*_, _≤_, _<_};
+ghost use Prim.Native.Nat.{_+_, _-_, _*_, _/_, _≤_, _<_};
 ghost use lib.ListN.{length};
+ghost use Rattle.tape.specs.Command.{mostLetters};
 ghost use Rattle.wrap.specs.Laid.{tableFrom, columnsOn};
+ghost use Rattle.compositor.specs.Settings.{mostPixels, mostLineHeight};
 ghost use Rattle.compositor.specs.Layout.{columnLimit, lineHeight, lastBaseLine, baseLine, lineWidth, lineStart};
-ghost use Rattle.font.specs.Stroke.{origin};
-ghost use Rattle.compositor.specs.Ready.{InRange};
+ghost use Rattle.font.specs.Font.{cellW};
+ghost use Rattle.font.specs.Paint.{origin};
+ghost use Rattle.compositor.specs.Ready.{InRange, tooWide, leastStart};
 use crate::Settings;
 use font::BitmapFont;
 use font::ORIGIN;
@@ -15,7 +18,7 @@ const SIDE_MARGIN: usize = 8;
 // The most columns of a line.
 pub fn column_limit(s: Settings) -> usize
     requires { ⌜ InRange s ⌝ }
-    ensures { λ r. ⌜ (r ≡ columnLimit s) × (1 ≤ r) × (r ≤ 512) ⌝ }
+    ensures { λ r. ⌜ (r ≡ columnLimit s) × (1 ≤ r) × (r ≤ mostPixels / cellW) ⌝ }
 {
     let columns = s.width / BitmapFont::CELL_W;
     if columns < 1 {
@@ -26,7 +29,7 @@ pub fn column_limit(s: Settings) -> usize
 
 fn line_height(s: Settings) -> usize
     requires { ⌜ InRange s ⌝ }
-    ensures { λ r. ⌜ (r ≡ lineHeight s) × (r ≤ 1024) ⌝ }
+    ensures { λ r. ⌜ (r ≡ lineHeight s) × (r ≤ mostLineHeight) ⌝ }
 {
     if s.line_height_px < BitmapFont::CELL_H {
         return BitmapFont::CELL_H as usize;
@@ -44,7 +47,7 @@ pub fn minus(a: usize, b: usize) -> usize
 // The picture's row on which the last line's base line stands.
 fn last_baseline(s: Settings) -> usize
     requires { ⌜ InRange s ⌝ }
-    ensures { λ r. ⌜ (r ≡ lastBaseLine s) × (r ≤ 4096) ⌝ }
+    ensures { λ r. ⌜ (r ≡ lastBaseLine s) × (r ≤ mostPixels) ⌝ }
 {
     let descent = BitmapFont::CELL_H as usize - BitmapFont::BEARING_Y as usize;
     minus(
@@ -53,9 +56,9 @@ fn last_baseline(s: Settings) -> usize
     )
 }
 
-// The place of the base line of the line that has so many lines below it.
+// The position of the base line of the line that has so many lines below it.
 pub fn baseline(s: Settings, below: usize) -> usize
-    requires { ⌜ InRange s × (below ≤ 4096) ⌝ }
+    requires { ⌜ InRange s × (below ≤ mostLetters) ⌝ }
     ensures { λ r. ⌜ (r ≡ baseLine s below) × (32 ≤ r) × (r + 16 < 2 * origin) ⌝ }
 {
     ORIGIN + last_baseline(s) - below * line_height(s)
@@ -64,15 +67,15 @@ pub fn baseline(s: Settings, below: usize) -> usize
 // The pixels of a line of the workspace's table.
 pub fn measure_line(ws: &[u8], line: usize) -> usize
     requires { ⌜ tableFrom + 4 * line + 4 ≤ length (now ws) ⌝ }
-    ensures { λ r. ⌜ (r ≡ lineWidth (columnsOn (now (ws .entry)) line)) × (r < 0x8_0000) ⌝ }
+    ensures { λ r. ⌜ (r ≡ lineWidth (columnsOn (now (ws .entry)) line)) × (r < tooWide) ⌝ }
 {
     wrap::laid::columns_on(ws, line) * BitmapFont::CELL_W as usize
 }
 
 // Where a line of w pixels starts.
 pub fn line_start(s: Settings, w: usize) -> usize
-    requires { ⌜ InRange s × (w < 0x8_0000) ⌝ }
-    ensures { λ r. ⌜ (r ≡ lineStart s w) × (0x10_0000 ≤ r) × (r ≤ origin + 4096) ⌝ }
+    requires { ⌜ InRange s × (w < tooWide) ⌝ }
+    ensures { λ r. ⌜ (r ≡ lineStart s w) × (leastStart ≤ r) × (r ≤ origin + mostPixels) ⌝ }
 {
     let width = s.width as usize;
     if s.align == 0 {

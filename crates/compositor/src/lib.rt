@@ -28,8 +28,9 @@ const LAST_ALIGN: u32 = 4;
 
 const MOST_OUTLINE: u32 = 2;
 
-// How captions are drawn: sizes in pixels; colors are red, green, blue, alpha; `align` is 0 centre,
-// 1 left, 2 start, which is as left, 3 right, 4 end, which is as right.
+// The eight settings, in the order in which they are kept. Sizes are in pixels; colors are red, green,
+// blue, alpha; `align`, the alignment, is 0 centre, 1 left, 2 start, which is as left, 3 right, 4 end,
+// which is as right.
 pub struct Settings {
     pub width: u32,
     pub height: u32,
@@ -90,10 +91,10 @@ pub enum Cue {
     Refused(u8, usize),
 }
 
-// What is refused before a tape is read, by its number: 8, 9, 10 or 11, or else `own`, for what the
+// What is refused before a tape is read, by its number: 8, 9, 10 or 11, or else `extra`, for what the
 // call has to check besides. 0 is nothing.
-fn first_fault(s: Settings, tape: &[u8], room: usize, size: usize, own: u8) -> u8
-    ensures { λ r. ⌜ Checked s (now (tape .entry)) room size own r ⌝ }
+fn first_fault(s: Settings, tape: &[u8], room: usize, size: usize, extra: u8) -> u8
+    ensures { λ r. ⌜ Checked s (now (tape .entry)) room size extra r ⌝ }
 {
     if s.is_out_of_range() {
         return 8;
@@ -107,7 +108,7 @@ fn first_fault(s: Settings, tape: &[u8], room: usize, size: usize, own: u8) -> u
     if room < tape::LEAST_ROOM {
         return 11;
     }
-    own
+    extra
 }
 
 // Reads a tape and puts its letters on lines.
@@ -126,12 +127,12 @@ fn lay_cue(s: Settings, tape: &[u8], ws: &mut [u8]) -> Cue
 }
 
 // Checks what every call that draws checks, for a picture's buffer of `size` bytes, and reads the
-// tape; `own` is the number of what the call has to refuse besides, before the tape is read, or 0.
-pub fn read_cue(s: Settings, tape: &[u8], ws: &mut [u8], size: usize, own: u8) -> Cue
-    ensures { λ r. ⌜ CueRead s (cueCall s (length (now (ws .entry))) size (now (tape .entry)) own)
+// tape; `extra` is the number of what the call has to refuse besides, before the tape is read, or 0.
+pub fn read_cue(s: Settings, tape: &[u8], ws: &mut [u8], size: usize, extra: u8) -> Cue
+    ensures { λ r. ⌜ CueRead s (cueCall s (length (now (ws .entry))) size (now (tape .entry)) extra)
         (now (ws .entry)) (now (ws .exit)) r ⌝ }
 {
-    let fault = first_fault(s, tape, ws.len(), size, own);
+    let fault = first_fault(s, tape, ws.len(), size, extra);
     if 0 < fault {
         return Cue::Refused(fault, 0);
     }

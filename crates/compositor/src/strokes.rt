@@ -6,14 +6,15 @@ ghost use Prim.Native.Nat.{_+_, _-_, _*_, _≤_, _<_};
 ghost use lib.ListN.{length};
 ghost use Rattle.font.specs.Font.{glyphRows};
 ghost use Rattle.font.specs.Slant.{rowOffsets};
-ghost use Rattle.font.specs.Stroke.{origin};
+ghost use Rattle.font.specs.Paint.{origin};
 ghost use Rattle.font.specs.Shear.{Inked};
-ghost use Rattle.font.specs.Places.{Lent, Reachable};
+ghost use Rattle.font.specs.Lent.{mostLent, Lent, Reachable};
 ghost use Rattle.tape.specs.Stored.{letterAt};
 ghost use Rattle.wrap.specs.Laid.{columnsOn};
+ghost use Rattle.compositor.specs.Settings.{mostPixels};
 ghost use Rattle.compositor.specs.Layout.{lineWidth, lineStart};
-ghost use Rattle.compositor.specs.Outline.{mostOutline, distance, onRing, ringRow, ring};
-ghost use Rattle.compositor.specs.Strokes.{letterStrokes, lineStrokes};
+ghost use Rattle.compositor.specs.Outline.{mostOutline, distance, atDistance, displacementRow, displacements};
+ghost use Rattle.compositor.specs.Order.{letterStrokes, lineStrokes};
 ghost use Rattle.compositor.specs.Read.{lettersAt, lettersFrom, strokesAt, strokesIn, Readable};
 ghost use Rattle.compositor.specs.Painting.{Near, Fonts, strokeOf, strokesOf, cut, misses, after, offRows, painted, Painted};
 ghost use Rattle.compositor.specs.Ready.{mostLines, InRange, Lined};
@@ -90,17 +91,17 @@ fn distance(o: usize, d: usize) -> usize
     if d < o { o - d } else { d - o }
 }
 
-// Whether the larger distance of an offset is exactly o.
-fn is_on_ring(o: usize, dx: usize, dy: usize) -> bool
-    ensures { λ r. ⌜ r ≡ onRing o dx dy ⌝ }
+// Whether the larger distance of a displacement is exactly o.
+fn is_at_distance(o: usize, dx: usize, dy: usize) -> bool
+    ensures { λ r. ⌜ r ≡ atDistance o dx dy ⌝ }
 {
     let x = distance(o, dx);
     let y = distance(o, dy);
     if x < y { y == o } else { x == o }
 }
 
-// Draws the stroke at an offset, which is o larger than it is, if the outline has it.
-fn draw_offset(
+// Draws the stroke at a displacement, which is o larger than it is, if the outline has it.
+fn draw_displaced(
     part: &mut [u8],
     rows: Rows,
     code: u32,
@@ -115,10 +116,10 @@ fn draw_offset(
 ) -> Window
     requires { ⌜ Lent (length (now part)) rows × Near at × Inked code pen (now glyph) (now offsets)
         × (o ≤ mostOutline) × (dx ≤ 2 * o) × (dy ≤ 2 * o) ⌝ }
-    ensures { λ r. ⌜ Painted rows (strokesOf code pen o at (ringRow o dy dx 1))
+    ensures { λ r. ⌜ Painted rows (strokesOf code pen o at (displacementRow o dy dx 1))
         window (now (part .entry)) (now (part .exit)) r ⌝ }
 {
-    if !is_on_ring(o, dx, dy) {
+    if !is_at_distance(o, dx, dy) {
         return window;
     }
     let x = at.x + dx - o;
@@ -128,7 +129,7 @@ fn draw_offset(
 }
 
 // Draws the strokes of the outline's row dy.
-fn draw_ring_row(
+fn draw_outline_row(
     part: &mut [u8],
     rows: Rows,
     code: u32,
@@ -142,13 +143,13 @@ fn draw_ring_row(
 ) -> Window
     requires { ⌜ Lent (length (now part)) rows × Near at × Inked code pen (now glyph) (now offsets)
         × (o ≤ mostOutline) × (dy ≤ 2 * o) ⌝ }
-    ensures { λ r. ⌜ Painted rows (strokesOf code pen o at (ringRow o dy 0 (2 * o + 1)))
+    ensures { λ r. ⌜ Painted rows (strokesOf code pen o at (displacementRow o dy 0 (2 * o + 1)))
         window (now (part .entry)) (now (part .exit)) r ⌝ }
 {
     let mut left = window;
     let mut dx = 0;
     while dx < 2 * o + 1 {
-        left = draw_offset(part, rows, code, glyph, offsets, at, pen, o, dx, dy, left);
+        left = draw_displaced(part, rows, code, glyph, offsets, at, pen, o, dx, dy, left);
         dx += 1;
     }
     left
@@ -167,7 +168,7 @@ fn draw_outline(
     window: Window,
 ) -> Window
     requires { ⌜ Lent (length (now part)) rows × Near at × Inked code pen (now glyph) (now offsets) × (o ≤ mostOutline) ⌝ }
-    ensures { λ r. ⌜ Painted rows (strokesOf code pen o at (ring o)) window (now (part .entry)) (now (part .exit)) r ⌝ }
+    ensures { λ r. ⌜ Painted rows (strokesOf code pen o at (displacements o)) window (now (part .entry)) (now (part .exit)) r ⌝ }
 {
     if o == 0 {
         return window;
@@ -175,7 +176,7 @@ fn draw_outline(
     let mut left = window;
     let mut dy = 0;
     while dy < 2 * o + 1 {
-        left = draw_ring_row(part, rows, code, glyph, offsets, at, pen, o, dy, left);
+        left = draw_outline_row(part, rows, code, glyph, offsets, at, pen, o, dy, left);
         dy += 1;
     }
     left
@@ -251,7 +252,7 @@ fn draw_line(
     window: Window,
 ) -> Window
     requires { ⌜ Lent (length (now part)) rows × Fonts (now regular) (now bold) (now slanted)
-        × Readable (now ws) (span .first + span .letters) × Near start × (start .x ≤ origin + 4096) ⌝ }
+        × Readable (now ws) (span .first + span .letters) × Near start × (start .x ≤ origin + mostPixels) ⌝ }
     ensures { λ r. ⌜ Painted rows (lineStrokes s (start .x) (start .base) (lettersAt (now (ws .entry)) (span .first) (span .letters)))
         window (now (part .entry)) (now (part .exit)) r ⌝ }
 {
@@ -271,10 +272,10 @@ fn draw_line(
     left
 }
 
-// Whether lines with base lines from place `high` down to place `low`, outlined by o, miss the lent
+// Whether lines with base lines from position `high` down to position `low`, outlined by o, miss the lent
 // rows.
 fn is_off(rows: Rows, high: usize, low: usize, o: usize) -> bool
-    requires { ⌜ (rows .count ≤ 4096) × (rows .first ≤ 4096) × (low < 2 * origin) × (o ≤ mostOutline) ⌝ }
+    requires { ⌜ (rows .count ≤ mostLent) × (rows .first ≤ mostLent) × (low < 2 * origin) × (o ≤ mostOutline) ⌝ }
     ensures { λ r. ⌜ r ≡ offRows rows high low o ⌝ }
 {
     let top = ORIGIN + rows.first;
@@ -285,7 +286,7 @@ fn is_off(rows: Rows, high: usize, low: usize, o: usize) -> bool
     top + rows.count + o + BitmapFont::BEARING_Y as usize <= high
 }
 
-// Draws a line of the workspace's table, the letters of a span, its base line at place y. Where it
+// Draws a line of the workspace's table, the letters of a span, its base line at position y. Where it
 // misses the lent rows, or the window has none of its strokes, no letter is looked at.
 fn place_line(
     part: &mut [u8],

@@ -10,8 +10,8 @@ use borrow.Author.Tests.{le-leb, lt-leb, eq-eqb}
 use lib.ListN.{length, getD}
 use lib.Seq.{ext-getD}
 use Rattle.font.specs.Blend.{blendPixel}
-use Rattle.font.specs.Stroke.{origin, onRow, lit, paintColumn, paintColumns}
-use Rattle.font.proofs.Pixel.{pixel-length}
+use Rattle.font.specs.Paint.{origin, onRow, lit, paintColumn, paintColumns}
+use Rattle.font.proofs.PixelBlend.{pixel-length}
 
 -- of two lists of one length either has that length
 pub cond-length : (b : Bool) (l m : List ℕ) {n : ℕ} → length l ≡ n → length m ≡ n → length (cond b l m) ≡ n

@@ -1,8 +1,9 @@
-pub mod Fill
-pub mod Every
-pub mod Rules
-pub mod Rounding
-pub mod Pixel
-pub mod Columns
-pub mod Rows
-pub mod Signs
+-- Laws of tables, of the slant, and of painting; the notation's signs.
+pub mod ArrayFill  -- an array that is filled from its start with f 0, f 1, and so on
+pub mod EveryEntry  -- a rule at each entry of a list, or at each number below n, by computed tests
+pub mod GlyphRules  -- the two rules of the glyph tables, over the whole table
+pub mod Rounding  -- the slant in f32, at each of the sixteen rows of the two pens
+pub mod PixelBlend  -- a color blended into one pixel
+pub mod Columns  -- a glyph's row painted into a picture's row
+pub mod Rows  -- a picture's rows, each changed by itself, and a stroke's rows
+pub mod Signs  -- the signs of the library mean what the deposit says of them

@@ -1,19 +1,18 @@
 -- The slant in f32: what holds of each of the sixteen rows of the two pens, by tests that antt computes.
 use mathlib.Core.Path.{_≡_, refl, sym, ap}
 use mathlib.Core.Bool.{Bool, true, false, cond, _&&_}
-use Prim.Native.Nat.{ℕ, suc, _+_, _-_, _*_, _/_, _^_, _≤_, _<_}
+use Prim.Native.Nat.{ℕ, _+_, _-_, _/_, _^_, _≤_, _<_}
 use lib.Dec.{T, leb, ltb, eqb, leb→le, ltb→lt, eqb→eq}
-use lib.IntN.{ℤ, pos, negsuc, negℤ, _+ℤ_, _-ℤ_}
+use lib.IntN.{pos, _-ℤ_}
 use lib.Ieee.{Float, fin, binary32, lt, neg, mul, div, ofInt, toUnsigned}
 use lib.Ieee.Fits.{and-l, and-r}
 use lib.ListN.{replicate}
 use lib.Signed.{mag}
 use mir.Syntax.{w16}
 use mir.Val.{SFits}
-use Rattle.font.specs.Font.{cellW, cellH, bearingY}
-use Rattle.font.specs.Slant.{nearest, rowOffset}
+use Rattle.font.specs.Slant.{rowOffset}
 use Rattle.font.specs.Shear.{float, shearOf, leans, Shear, moved, Moved, rounded}
-use Rattle.font.proofs.Every.{every, at, each}
+use Rattle.font.proofs.EveryEntry.{every, at}
 
 -- f passes at each row
 abbrev rows : (ℕ → Bool) → Bool
@@ -37,7 +36,7 @@ twice below x = mul binary32 (cond below (neg x) x) (fin false 1 (pos 1))
 abbrev pub half : Bool → Float → ℕ
 half below x = (toUnsigned 64 (twice below x) + 1) / 2
 
--- `round` may cut it, and finds what it should
+-- `round` may cut it, and finds what it should: true of the 32 cases of `Moved`, which are tried one by one
 pub record Rounds (below : Bool) (x : Float) : Type 0 where
   pub low : T (lt (fin true 1 (pos 0)) (twice below x))
   pub high : T (lt (twice below x) (fin false 1 (pos 64)))
@@ -94,19 +93,6 @@ all-offsets = tt
 pub moved-offset : (italic : Bool) (r : ℕ) → r < 16 → rounded (moved italic r) ≡ rowOffset italic r
 unfolding offset?
 moved-offset italic r h = eqb→eq _ _ (pen offset? all-offsets italic r h)
-
--- The offset as document 01 writes it, signed: b · cell_w / (4 · cell_h) for a row b above the base line, rounded, halves away from zero.
-abbrev pub signedOffset : ℤ → ℤ
-signedOffset (pos b) = pos (nearest (b * cellW) (4 * cellH))
-signedOffset (negsuc b) = negℤ (pos (nearest (suc b * cellW) (4 * cellH)))
-
-abbrev Signed : ℕ → Type 0
-Signed r = pos (rowOffset true r) ≡ pos 8 +ℤ signedOffset (pos bearingY -ℤ pos r)
-
-pub signed-offset : (r : ℕ) → r < 16 → Signed r
-signed-offset r h =
-    each Signed 16
-    (refl, (refl, (refl, (refl, (refl, (refl, (refl, (refl, (refl, (refl, (refl, (refl, (refl, (refl, (refl, (refl, tt)))))))))))))))) r h
 
 -- a row's distance from the base line is an i16
 fits? : ℕ → Bool

@@ -11,7 +11,7 @@ use lib.Dec.{leb, ltb}
 use lib.ListN.{length, getD, take, drop, length-append, length-drop, take-append-drop}
 use lib.Seq.{length-take-le, take-at, drop-at, drop-drop, take-take, take-add}
 use Rattle.font.specs.Font.{bearingY}
-use Rattle.font.specs.Stroke.{origin, paintRow, strokeRow, eachRow}
+use Rattle.font.specs.Paint.{origin, paintRow, strokeRow, eachRow}
 use Rattle.font.proofs.Columns.{cond-length, cond-same, columns-length, columns-clear}
 
 -- row i of some rows ends within them
@@ -23,7 +23,7 @@ row-in i rows size h k =
 pub less : {i n : ℕ} → i < n → n - (i + 1) < n - i
 less h = omega arith
 
--- row i of a part, whose first row is at place start, has row r of a glyph, whose top is at place top
+-- row i of a part, whose first row is at position start, has row r of a glyph, whose top is at position top
 pub record Falls (rows start top i r : ℕ) : Type 0 where
   pub within : i < rows
   pub next : i + 1 ≤ rows
@@ -206,7 +206,8 @@ module _ (glyph offsets k : List ℕ) (x base y : ℕ) (row : List ℕ) where
   stroke-below h =
       simp (le-leb (base - bearingY) (origin + y) (omega arith), le-ltb (origin + y - (base - bearingY)) 16 (omega arith))
 
--- A loop over the rows of a stroke: what a stroke leaves of the whole is the rows before row i as they are, and the stroke on the rows from i on.
+-- A loop over the rows of a stroke: what a stroke leaves of the whole is the rows before row i as they are, and the
+-- stroke on the rows from i on.
 module _ (glyph offsets k : List ℕ) (x base size rows first : ℕ) (whole : List ℕ) where
   abbrev stroke : ℕ → List ℕ → List ℕ
   stroke = strokeRow glyph offsets k x base

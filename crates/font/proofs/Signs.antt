@@ -37,13 +37,13 @@ differ false = refl
 
 pub tests : Tests
 tests = record {
-  at-most = le-leb;
-  over = lt-leb;
-  below = lt-ltb;
-  not-below = le-ltb;
-  equal = λ a. eq-eqb a a refl;
-  less = λ a b h. ne-eqb a b (λ e. omega arith);
-  more = λ a b h. ne-eqb a b (λ e. omega arith);
+  leb-holds = le-leb;
+  leb-fails = lt-leb;
+  ltb-holds = lt-ltb;
+  ltb-fails = le-ltb;
+  eqb-holds = λ a. eq-eqb a a refl;
+  eqb-below = λ a b h. ne-eqb a b (λ e. omega arith);
+  eqb-above = λ a b h. ne-eqb a b (λ e. omega arith);
   not-true = refl;
   not-false = refl;
   and-true = λ t. refl;

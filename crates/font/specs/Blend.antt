@@ -1,13 +1,9 @@
 -- Blending a color into a pixel: document 01, "Blend, alpha a > 0 ..". Definitions only.
 use mathlib.Core.Bool.{cond}
-use mathlib.Core.List.{List, [], _∷_}
-use Prim.Native.Nat.{ℕ, _+_, _-_, _*_, _/_, _%_, _^_, min}
+use mathlib.Core.List.{List}
+use Prim.Native.Nat.{ℕ, _+_, _-_, _*_, _/_, min}
 use lib.Dec.{eqb}
 use lib.ListN.{getD, set}
-
--- the four bytes of a color that is written as the number 0xRRGGBBAA, below 2^32: for calls that take one, not for players
-abbrev pub colorBytes : ℕ → List ℕ
-colorBytes k = k / 2 ^ 24 ∷ k / 2 ^ 16 % 256 ∷ k / 2 ^ 8 % 256 ∷ k % 256 ∷ []
 
 -- the color byte s with alpha a over the picture's byte d
 unfoldable pub blendByte : ℕ → ℕ → ℕ → ℕ
@@ -17,7 +13,8 @@ blendByte s a d = (s * a + d * (255 - a) + 127) / 255
 unfoldable pub blendAlpha : ℕ → ℕ → ℕ
 blendAlpha a d = min 255 (a + (d * (255 - a) + 127) / 255)
 
--- the bytes l with the color k blended into the pixel whose four bytes begin at i; a color and a pixel are red, green, blue, alpha
+-- the bytes l with the color k blended into the pixel whose four bytes begin at i; a color and a pixel are red, green,
+-- blue, alpha
 unfoldable pub blendOver : List ℕ → ℕ → List ℕ → List ℕ
 blendOver k i l =
     let a = getD k 3 0 in

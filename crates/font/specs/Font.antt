@@ -37,23 +37,23 @@ unfoldable pub regularTable : List ℕ
 unfolding glyphs
 regularTable = tableRows glyphs
 
--- a bold row: the bits of r, and those of r shifted right by one
+-- a bold row: the bits of a row, and these shifted right by one
 abbrev pub embolden : ℕ → ℕ
-embolden r = bitOr r (r / 2)
+embolden bits = bitOr bits (bits / 2)
 
 -- the bold font's 4,096 rows
 unfoldable pub boldTable : List ℕ
 unfolding regularTable
 boldTable = map embolden regularTable
 
--- the rows of the font of a bold mark
+-- the rows of the bold font, or of the regular one
 abbrev pub tableOf : Bool → List ℕ
-tableOf b = cond b boldTable regularTable
+tableOf bold = cond bold boldTable regularTable
 
 -- the sixteen rows of the box
 abbrev pub missingRows : List ℕ
 missingRows = rowsOf cellH missing
 
--- the sixteen rows of a code point's glyph in a font's table. The box is the same in both fonts.
+-- the sixteen rows of a code point's glyph, r their number, in a font's table; the box is the same in both fonts
 abbrev pub glyphRows : List ℕ → ℕ → List ℕ
 glyphRows table code = cond (ltb code 256) (tabulate (λ r. getD table (code * cellH + r) 0) cellH) missingRows

@@ -1,6 +1,6 @@
 -- The glyphs, each once: document 01, "Glyph tables". Definitions only.
--- A glyph is one number of sixteen rows, two hexadecimal digits a row, the top row first; bit 7 of a row is its leftmost pixel. Some glyphs are
--- the same number, and are meant to be: those of 0 and O, x and ×, ª and º.
+-- A glyph is one number of sixteen rows, two hexadecimal digits a row, the top row first; bit 7 of a row is its
+-- leftmost pixel. Some glyphs are the same number, and are meant to be: those of 0 and O, x and ×, ª and º.
 use mathlib.Core.List.{List, [], _∷_, _++_, map}
 use Prim.Native.Nat.{ℕ, _+_, _-_, _*_, _%_, _^_}
 use lib.ListN.{getD, replicate}
@@ -104,11 +104,12 @@ printable =
     0x00366c00_00000000_00000000_00000000 ∷ []  -- 7E ~
 
 -- the printable letter with the code point c
-unfoldable pub letter : ℕ → ℕ
+unfoldable pub printableGlyph : ℕ → ℕ
 unfolding printable
-letter c = getD printable (c - 0x21) 0
+printableGlyph c = getD printable (c - 0x21) 0
 
--- an accent: its rows 0 and 1. The ring of Å has no more than these either: it is not closed, and the same as the circumflex.
+-- An accent: its rows 0 and 1. The ring of Å has only these two rows too: it is not closed, and the same as the
+-- circumflex.
 abbrev grave : ℕ
 grave = 0x300c
 
@@ -129,60 +130,58 @@ ring = 0x1824
 
 -- a glyph of the upper half of Latin-1: drawn whole, or an accent and the code point of the letter under it
 pub data Shape : Type 0 where
-  drawn : ℕ → Shape
+  whole : ℕ → Shape
   accented : ℕ → ℕ → Shape
 
--- the glyph of a shape: an accent replaces the letter's rows 0 and 1, and no other; so ì, í, î and ï keep the lower row of the dot
+-- The glyph of a shape: an accent replaces the letter's rows 0 and 1, and no other. So ì, í, î and ï keep the lower row
+-- of the dot; and Ò is as Ù, Ó as Ú, Ô as Û and Ö as Ü, since O and U differ in row 1 alone.
 unfoldable pub glyphOf : Shape → ℕ
-unfolding letter
-glyphOf (drawn g) = g
-glyphOf (accented hat c) = hat * 2 ^ 112 + letter c % 2 ^ 112
-
-abbrev blank : Shape
-blank = drawn 0
+unfolding printableGlyph
+glyphOf (whole g) = g
+glyphOf (accented accent c) = accent * 2 ^ 112 + printableGlyph c % 2 ^ 112
 
 -- code points A1 to FF hexadecimal
 unfoldable pub latin1 : List Shape
 latin1 =
-    drawn 0x00001800_18181818_18180000_00000000 ∷  -- A1 ¡
-    drawn 0x00183c6c_60606c3c_18000000_00000000 ∷  -- A2 ¢
-    drawn 0x001e3230_7c303066_7e000000_00000000 ∷  -- A3 £
-    drawn 0x00663c66_663c6600_00000000_00000000 ∷  -- A4 ¤
-    drawn 0x0066663c_7e187e18_18000000_00000000 ∷  -- A5 ¥
-    drawn 0x00181818_00001818_18000000_00000000 ∷  -- A6 ¦
-    drawn 0x003c6630_3c660c66_3c000000_00000000 ∷  -- A7 §
-    drawn 0x00242400_00000000_00000000_00000000 ∷  -- A8 ¨
-    drawn 0x003c425a_525a423c_00000000_00000000 ∷  -- A9 ©
-    drawn 0x003c063e_663e007e_00000000_00000000 ∷  -- AA ª
-    drawn 0x00002448_90482400_00000000_00000000 ∷  -- AB «
-    drawn 0x00000000_7e060000_00000000_00000000 ∷  -- AC ¬
-    blank ∷  -- AD the soft hyphen
-    drawn 0x003c425a_5a52423c_00000000_00000000 ∷  -- AE ®
-    drawn 0x007e0000_00000000_00000000_00000000 ∷  -- AF ¯
-    drawn 0x003c663c_00000000_00000000_00000000 ∷  -- B0 °
-    drawn 0x00001818_7e181800_7e000000_00000000 ∷  -- B1 ±
-    drawn 0x00384c08_10207c00_00000000_00000000 ∷  -- B2 ²
-    drawn 0x00384c08_044c3800_00000000_00000000 ∷  -- B3 ³
-    drawn 0x000c3000_00000000_00000000_00000000 ∷  -- B4 ´
-    drawn 0x00000000_66666666_7e606000_00000000 ∷  -- B5 µ
-    drawn 0x003f7b7b_3b060606_06000000_00000000 ∷  -- B6 ¶
-    drawn 0x00000000_00181800_00000000_00000000 ∷  -- B7 ·
-    drawn 0x00000000_00000000_0000000c_18380000 ∷  -- B8 ¸
-    drawn 0x00183818_18183c00_00000000_00000000 ∷  -- B9 ¹
-    drawn 0x003c063e_663e007e_00000000_00000000 ∷  -- BA º
-    drawn 0x00004824_12244800_00000000_00000000 ∷  -- BB »
-    drawn 0x00646808_10162f29_490f0101_00000000 ∷  -- BC ¼
-    drawn 0x00646808_10162922_440f0000_00000000 ∷  -- BD ½
-    drawn 0x00744828_102c5e29_090f0101_00000000 ∷  -- BE ¾
-    drawn 0x00180018_18306066_3c000000_00000000 ∷  -- BF ¿
+    whole 0x00001800_18181818_18180000_00000000 ∷  -- A1 ¡
+    whole 0x00183c6c_60606c3c_18000000_00000000 ∷  -- A2 ¢
+    whole 0x001e3230_7c303066_7e000000_00000000 ∷  -- A3 £
+    whole 0x00663c66_663c6600_00000000_00000000 ∷  -- A4 ¤
+    whole 0x0066663c_7e187e18_18000000_00000000 ∷  -- A5 ¥
+    whole 0x00181818_00001818_18000000_00000000 ∷  -- A6 ¦
+    whole 0x003c6630_3c660c66_3c000000_00000000 ∷  -- A7 §
+    whole 0x00242400_00000000_00000000_00000000 ∷  -- A8 ¨
+    whole 0x003c425a_525a423c_00000000_00000000 ∷  -- A9 ©
+    whole 0x003c063e_663e007e_00000000_00000000 ∷  -- AA ª
+    whole 0x00002448_90482400_00000000_00000000 ∷  -- AB «
+    whole 0x00000000_7e060000_00000000_00000000 ∷  -- AC ¬
+    whole 0 ∷  -- AD the soft hyphen
+    whole 0x003c425a_5a52423c_00000000_00000000 ∷  -- AE ®
+    whole 0x007e0000_00000000_00000000_00000000 ∷  -- AF ¯
+    whole 0x003c663c_00000000_00000000_00000000 ∷  -- B0 °
+    whole 0x00001818_7e181800_7e000000_00000000 ∷  -- B1 ±
+    whole 0x00384c08_10207c00_00000000_00000000 ∷  -- B2 ²
+    whole 0x00384c08_044c3800_00000000_00000000 ∷  -- B3 ³
+    whole 0x000c3000_00000000_00000000_00000000 ∷  -- B4 ´
+    whole 0x00000000_66666666_7e606000_00000000 ∷  -- B5 µ
+    whole 0x003f7b7b_3b060606_06000000_00000000 ∷  -- B6 ¶
+    whole 0x00000000_00181800_00000000_00000000 ∷  -- B7 ·
+    whole 0x00000000_00000000_0000000c_18380000 ∷  -- B8 ¸
+    whole 0x00183818_18183c00_00000000_00000000 ∷  -- B9 ¹
+    whole 0x003c063e_663e007e_00000000_00000000 ∷  -- BA º
+    whole 0x00004824_12244800_00000000_00000000 ∷  -- BB »
+    whole 0x00646808_10162f29_490f0101_00000000 ∷  -- BC ¼
+    whole 0x00646808_10162922_440f0000_00000000 ∷  -- BD ½
+    whole 0x00744828_102c5e29_090f0101_00000000 ∷  -- BE ¾
+    whole 0x00180018_18306066_3c000000_00000000 ∷  -- BF ¿
     accented grave 0x41 ∷  -- C0 À
     accented acute 0x41 ∷  -- C1 Á
     accented circ 0x41 ∷  -- C2 Â
     accented tilde 0x41 ∷  -- C3 Ã
     accented uml 0x41 ∷  -- C4 Ä
     accented ring 0x41 ∷  -- C5 Å
-    drawn 0x003e6c6c_6f7e6c6c_6f000000_00000000 ∷  -- C6 Æ
-    drawn 0x003c6660_60606066_3c081830_00000000 ∷  -- C7 Ç
+    whole 0x003e6c6c_6f7e6c6c_6f000000_00000000 ∷  -- C6 Æ
+    whole 0x003c6660_60606066_3c081830_00000000 ∷  -- C7 Ç
     accented grave 0x45 ∷  -- C8 È
     accented acute 0x45 ∷  -- C9 É
     accented circ 0x45 ∷  -- CA Ê
@@ -191,30 +190,30 @@ latin1 =
     accented acute 0x49 ∷  -- CD Í
     accented circ 0x49 ∷  -- CE Î
     accented uml 0x49 ∷  -- CF Ï
-    drawn 0x00786c66_7b66666c_78000000_00000000 ∷  -- D0 Ð
+    whole 0x00786c66_7b66666c_78000000_00000000 ∷  -- D0 Ð
     accented tilde 0x4e ∷  -- D1 Ñ
     accented grave 0x4f ∷  -- D2 Ò
     accented acute 0x4f ∷  -- D3 Ó
     accented circ 0x4f ∷  -- D4 Ô
     accented tilde 0x4f ∷  -- D5 Õ
     accented uml 0x4f ∷  -- D6 Ö
-    drawn 0x00000000_663c183c_66000000_00000000 ∷  -- D7 ×
-    drawn 0x003e666e_6e7e7676_7c000000_00000000 ∷  -- D8 Ø
+    whole 0x00000000_663c183c_66000000_00000000 ∷  -- D7 ×
+    whole 0x003e666e_6e7e7676_7c000000_00000000 ∷  -- D8 Ø
     accented grave 0x55 ∷  -- D9 Ù
     accented acute 0x55 ∷  -- DA Ú
     accented circ 0x55 ∷  -- DB Û
     accented uml 0x55 ∷  -- DC Ü
     accented acute 0x59 ∷  -- DD Ý
-    drawn 0x00607c66_667c6060_60000000_00000000 ∷  -- DE Þ
-    drawn 0x003c6666_78666666_7a000000_00000000 ∷  -- DF ß
+    whole 0x00607c66_667c6060_60000000_00000000 ∷  -- DE Þ
+    whole 0x003c6666_78666666_7a000000_00000000 ∷  -- DF ß
     accented grave 0x61 ∷  -- E0 à
     accented acute 0x61 ∷  -- E1 á
     accented circ 0x61 ∷  -- E2 â
     accented tilde 0x61 ∷  -- E3 ã
     accented uml 0x61 ∷  -- E4 ä
     accented ring 0x61 ∷  -- E5 å
-    drawn 0x00000000_3e0f3f7e_6f000000_00000000 ∷  -- E6 æ
-    drawn 0x00000000_3c666066_3c081830_00000000 ∷  -- E7 ç
+    whole 0x00000000_3e0f3f7e_6f000000_00000000 ∷  -- E6 æ
+    whole 0x00000000_3c666066_3c081830_00000000 ∷  -- E7 ç
     accented grave 0x65 ∷  -- E8 è
     accented acute 0x65 ∷  -- E9 é
     accented circ 0x65 ∷  -- EA ê
@@ -223,24 +222,24 @@ latin1 =
     accented acute 0x69 ∷  -- ED í
     accented circ 0x69 ∷  -- EE î
     accented uml 0x69 ∷  -- EF ï
-    drawn 0x001b0f1e_36666666_3c000000_00000000 ∷  -- F0 ð
+    whole 0x001b0f1e_36666666_3c000000_00000000 ∷  -- F0 ð
     accented tilde 0x6e ∷  -- F1 ñ
     accented grave 0x6f ∷  -- F2 ò
     accented acute 0x6f ∷  -- F3 ó
     accented circ 0x6f ∷  -- F4 ô
     accented tilde 0x6f ∷  -- F5 õ
     accented uml 0x6f ∷  -- F6 ö
-    drawn 0x00001818_007e0018_18000000_00000000 ∷  -- F7 ÷
-    drawn 0x00000000_3e6e7e76_7c000000_00000000 ∷  -- F8 ø
+    whole 0x00001818_007e0018_18000000_00000000 ∷  -- F7 ÷
+    whole 0x00000000_3e6e7e76_7c000000_00000000 ∷  -- F8 ø
     accented grave 0x75 ∷  -- F9 ù
     accented acute 0x75 ∷  -- FA ú
     accented circ 0x75 ∷  -- FB û
     accented uml 0x75 ∷  -- FC ü
     accented acute 0x79 ∷  -- FD ý
-    drawn 0x00006060_7c66667c_60600000_00000000 ∷  -- FE þ
+    whole 0x00006060_7c66667c_60600000_00000000 ∷  -- FE þ
     accented uml 0x79 ∷ []  -- FF ÿ
 
--- all 256 glyphs; the controls, the space and the no-break space are blank
+-- all 256 glyphs. Those of the controls, the space, the no-break space and the soft hyphen are blank: no pixel is lit
 unfoldable pub glyphs : List ℕ
 unfolding printable glyphOf latin1
 glyphs = replicate 33 0 ++ (printable ++ (replicate 34 0 ++ map glyphOf latin1))

@@ -4,6 +4,7 @@ pub mod Glyphs
 pub mod Font
 pub mod Slant
 pub mod Blend
-pub mod Stroke
+pub mod Paint
+pub mod Colors
 pub mod Shear
-pub mod Places
+pub mod Lent

@@ -1,5 +1,5 @@
--- Promises: fonts and pens as the code has them, what is lent beside a pen, and the slant as the code works it out, in f32. `Slant` says what
--- comes out of it; no reader of the deposit needs this file.
+-- Promises: fonts and pens as the code has them, what is lent beside a pen, and the slant as the code works it out, in
+-- f32. `Slant` says what comes out of it; no reader of the deposit needs this file.
 use mathlib.Core.Path.{_≡_}
 use mathlib.Core.Bool.{Bool, true, false}
 use mathlib.Core.List.{List}
@@ -8,7 +8,7 @@ use lib.IntN.{pos, _-ℤ_}
 use lib.Ieee.{Float, nan, inf, fin, binary32, ofInt, lt, mul, div, up, down}
 use Rattle.font.specs.Font.{cellW, cellH, bearingY, tableOf, glyphRows}
 use Rattle.font.specs.Slant.{nearest, rowOffsets}
-use Rattle.font.specs.Stroke.{strokeRow}
+use Rattle.font.specs.Paint.{strokeRow}
 use Rattle.font.specs.declared.BitmapFont.{BitmapFont}
 use Rattle.font.specs.declared.Pen.{Pen}
 use Rattle.font.specs.declared.paint.Spot.{Spot}
@@ -61,14 +61,15 @@ unfoldable pub moved : Bool → ℕ → Float
 unfolding ofInt mul div shearOf
 moved italic r = div binary32 (mul binary32 (ofInt binary32 (pos bearingY -ℤ pos r)) (shearOf italic)) (float cellH)
 
--- x is what one of the sixteen rows of one of the two pens moves by
+-- x is what one of the sixteen rows of one of the two pens moves by: 32 cases, all between −1 and 2
 pub record Moved (x : Float) : Type 0 where
   pub italic : Bool
   pub row : ℕ
   pub below : row < cellH
   pub is : x ≡ moved italic row
 
--- 8 more than x to the nearest whole number, halves away from zero; fin s m e is m · 2^e, negative where s is true
+-- 8 more than x to the nearest whole number, halves away from zero, for the x of `Moved`: others may be below −8, or no
+-- number, and are not rounded by the code. fin s m e is m · 2^e, negative where s is true
 unfoldable pub rounded : Float → ℕ
 rounded nan = 8
 rounded (inf s) = 8

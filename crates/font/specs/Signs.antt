@@ -29,13 +29,13 @@ pub record Numbers : Type 0 where
 
 -- tests
 pub record Tests : Type 0 where
-  pub at-most : (a b : ℕ) → a ≤ b → leb a b ≡ true
-  pub over : (a b : ℕ) → b < a → leb a b ≡ false
-  pub below : (a b : ℕ) → a < b → ltb a b ≡ true
-  pub not-below : (a b : ℕ) → b ≤ a → ltb a b ≡ false
-  pub equal : (a : ℕ) → eqb a a ≡ true
-  pub less : (a b : ℕ) → a < b → eqb a b ≡ false
-  pub more : (a b : ℕ) → b < a → eqb a b ≡ false
+  pub leb-holds : (a b : ℕ) → a ≤ b → leb a b ≡ true
+  pub leb-fails : (a b : ℕ) → b < a → leb a b ≡ false
+  pub ltb-holds : (a b : ℕ) → a < b → ltb a b ≡ true
+  pub ltb-fails : (a b : ℕ) → b ≤ a → ltb a b ≡ false
+  pub eqb-holds : (a : ℕ) → eqb a a ≡ true
+  pub eqb-below : (a b : ℕ) → a < b → eqb a b ≡ false
+  pub eqb-above : (a b : ℕ) → b < a → eqb a b ≡ false
   pub not-true : not true ≡ false
   pub not-false : not false ≡ true
   pub and-true : (t : Bool) → (true && t) ≡ t

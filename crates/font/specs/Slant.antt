@@ -4,13 +4,14 @@ use mathlib.Core.List.{List}
 use Prim.Native.Nat.{ℕ, _+_, _-_, _*_, _/_}
 use Rattle.font.specs.Font.{cellW, cellH, bearingY, tabulate}
 
--- a / b to the nearest whole number, a half upward
+-- n / d to the nearest whole number, a half upward
 abbrev pub nearest : ℕ → ℕ → ℕ
-nearest a b = (2 * a + b) / (2 * b)
+nearest n d = (2 * n + d) / (2 * d)
 
--- 8 more than the columns by which row r moves to the right: b · cellW / (4 · cellH), b = bearingY − r, rounded, halves away from zero.
--- Above the base line the first quotient is that move, and the second is 0; below it the row moves to the left, by the second. With these cells
--- that is 0 too: row 0 moves by 2 columns, rows 1 to 8 by 1, and the others stay.
+-- Italic moves the upper rows of a glyph to the right: row 0 by 2 columns, rows 1 to 8 by 1; the others stay. The
+-- offset of a row is 8 more than that.
+-- The rule: row r moves by (bearingY − r) · cellW / (4 · cellH) columns, rounded, halves away from zero. That is the
+-- first quotient less the second, of which one is always 0.
 abbrev pub rowOffset : Bool → ℕ → ℕ
 rowOffset false r = 8
 rowOffset true r =

@@ -11,7 +11,7 @@ ghost use mathlib.Core.Path.{_≡_};
 ghost use mathlib.Core.Bool.{true, false};
 ghost use Prim.Native.Nat.{_<_};
 ghost use Rattle.font.specs.Font.{tableOf, glyphRows};
-ghost use Rattle.font.specs.Blend.{colorBytes};
+ghost use Rattle.font.specs.Colors.{colorBytes};
 ghost use Rattle.font.specs.Slant.{rowOffset, rowOffsets};
 ghost use Rattle.font.specs.Shear.{fontOf, penOf, leans, Shear, Moved, rounded};
 
@@ -128,8 +128,9 @@ fn row_offset(shear: f32, r: usize) -> u8
     round(from_baseline as f32 * shear / BitmapFont::CELL_H as f32)
 }
 
-// x to the nearest whole number, halves away from zero, plus 8. Twice x is cut and halved again:
-// x + 0.5 would round 0.49999997 up.
+// What a row moves by, to the nearest whole number, halves away from zero, plus 8. Twice x is cut and
+// halved again. x is what one of the sixteen rows of one of the two pens moves by: 32 cases, and of
+// no other x is anything said.
 fn round(x: f32) -> u8
     requires { ⌜ Moved x ⌝ }
     ensures { λ r. ⌜ r ≡ rounded x ⌝ }

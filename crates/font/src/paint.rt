@@ -8,13 +8,13 @@ ghost use mathlib.Core.List.{[], _∷_};
 ghost use Prim.Native.Nat.{_+_, _-_, _*_, _≤_, _<_, min};
 ghost use lib.ListN.{length};
 ghost use Rattle.font.specs.Blend.{blendByte, blendAlpha, blendPixel};
-ghost use Rattle.font.specs.Stroke.{origin, paintColumn, paintBit, paintRow, strokeRow, eachRow};
+ghost use Rattle.font.specs.Paint.{origin, paintColumn, paintBit, paintRow, strokeRow, eachRow};
 ghost use Rattle.font.specs.Shear.{penRow, Inked};
-ghost use Rattle.font.specs.Places.{Inside, Lent, Reachable};
+ghost use Rattle.font.specs.Lent.{Inside, mostLent, Lent, Reachable};
 use crate::BitmapFont;
 use crate::Pen;
 
-// The place of the picture's column 0 and row 0.
+// The position of the picture's column 0 and row 0.
 pub const ORIGIN: usize = 0x400_0000;
 
 // The rows of a picture that are lent: `count` rows of `width` pixels, the first of which is the
@@ -25,7 +25,7 @@ pub struct Rows {
     pub first: usize,
 }
 
-// Where a glyph stands: the places of its left column and of its base line.
+// Where a glyph stands: the positions of its left column and of its base line.
 pub struct Spot {
     pub x: usize,
     pub base: usize,
@@ -87,7 +87,7 @@ fn blend_pixel(row: &mut [u8], at: usize, lit: bool, red: u8, green: u8, blue: u
     row[at + 3] = pick(lit, e3, d3);
 }
 
-// Paints column c of a glyph's row whose eight columns, the first at place x, all lie on the
+// Paints column c of a glyph's row whose eight columns, the first at position x, all lie on the
 // picture's row.
 fn paint_bit(row: &mut [u8], x: usize, bits: u8, c: usize, red: u8, green: u8, blue: u8, alpha: u8)
     requires { ⌜ Inside (length (now row)) x × (c < 8) ⌝ }
@@ -120,7 +120,7 @@ fn paint_inside(row: &mut [u8], x: usize, bits: u8, red: u8, green: u8, blue: u8
     paint_pair(row, x, bits, 6, red, green, blue, alpha);
 }
 
-// Paints a column, at place x, where it lies on the picture's row.
+// Paints a column, at position x, where it lies on the picture's row.
 fn paint_column(row: &mut [u8], x: usize, lit: bool, red: u8, green: u8, blue: u8, alpha: u8)
     requires { ⌜ x < 0x1000_0000 ⌝ }
     ensures { λ _. ⌜ now (row .exit)
@@ -136,7 +136,7 @@ fn paint_column(row: &mut [u8], x: usize, lit: bool, red: u8, green: u8, blue: u
     blend_pixel(row, at, lit, red, green, blue, alpha);
 }
 
-// Paints a glyph's row column by column, the first at place x.
+// Paints a glyph's row column by column, the first at position x.
 fn paint_clipped(row: &mut [u8], x: usize, bits: u8, red: u8, green: u8, blue: u8, alpha: u8)
     requires { ⌜ x < 0x800_0100 ⌝ }
     ensures { λ _. ⌜ now (row .exit) ≡ paintRow (red ∷ green ∷ blue ∷ alpha ∷ []) bits x (now (row .entry)) ⌝ }
@@ -149,7 +149,7 @@ fn paint_clipped(row: &mut [u8], x: usize, bits: u8, red: u8, green: u8, blue: u
     }
 }
 
-// Paints a glyph's row, its first column at place x. A blank row changes nothing.
+// Paints a glyph's row, its first column at position x. A blank row changes nothing.
 fn paint_row(row: &mut [u8], x: usize, bits: u8, red: u8, green: u8, blue: u8, alpha: u8)
     requires { ⌜ x < 0x800_0100 ⌝ }
     ensures { λ _. ⌜ now (row .exit) ≡ paintRow (red ∷ green ∷ blue ∷ alpha ∷ []) bits x (now (row .entry)) ⌝ }
@@ -170,16 +170,16 @@ fn paint_row(row: &mut [u8], x: usize, bits: u8, red: u8, green: u8, blue: u8, a
 
 // Paints a glyph's row, moved by its offset, into the picture's row on which it falls.
 fn draw_row(row: &mut [u8], x: usize, bits: u8, offset: u8, red: u8, green: u8, blue: u8, alpha: u8)
-    requires { ⌜ (8 ≤ x) × (x < 0x800_0000) ⌝ }
+    requires { ⌜ (8 ≤ x) × (x < 2 * origin) ⌝ }
     ensures { λ _. ⌜ now (row .exit)
         ≡ paintRow (red ∷ green ∷ blue ∷ alpha ∷ []) bits (x + offset - 8) (now (row .entry)) ⌝ }
 {
     paint_row(row, x + offset as usize - 8, bits, red, green, blue, alpha);
 }
 
-// How many of the lent rows lie above place y.
+// How many of the lent rows lie above position y.
 fn rows_above(rows: Rows, y: usize) -> usize
-    requires { ⌜ rows .first ≤ 4096 ⌝ }
+    requires { ⌜ rows .first ≤ mostLent ⌝ }
     ensures { λ r. ⌜ r ≡ min (rows .count) (y - (origin + rows .first)) ⌝ }
 {
     let start = ORIGIN + rows.first;

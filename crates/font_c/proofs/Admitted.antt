@@ -7,8 +7,8 @@ use lib.Dec.{T, leb, ltb, leb→le, ltb→lt}
 use lib.Ieee.Fits.{and-l, and-r}
 use Rattle.font.specs.declared.paint.Rows.{Rows}
 use Rattle.font.specs.declared.paint.Spot.{Spot}
-use Rattle.font.specs.Places.{Lent, Reachable}
-use Rattle.font.specs.Stroke.{origin}
+use Rattle.font.specs.Lent.{mostLent, Lent, Reachable}
+use Rattle.font.specs.Paint.{origin}
 use Rattle.font_c.specs.Exported.{near, admitted}
 
 near-bounds : (x : ℕ) → T (near x) → (origin / 2 ≤ x) × (x < 2 * origin)
@@ -26,16 +26,16 @@ lent n rows at e =
     let y = at .base in
     let long = leb (count * (4 * size)) n in
     let t0 : T (admitted n size count first x y) = subst (λ (b : Bool). T b) (sym e) tt in
-    let t1 = and-r (leb size 4096) (leb count 4096 && (leb first 4096 && (near x && (near y && long)))) t0 in
-    let t2 = and-r (leb count 4096) (leb first 4096 && (near x && (near y && long))) t1 in
-    let t3 = and-r (leb first 4096) (near x && (near y && long)) t2 in
+    let t1 = and-r (leb size mostLent) (leb count mostLent && (leb first mostLent && (near x && (near y && long)))) t0 in
+    let t2 = and-r (leb count mostLent) (leb first mostLent && (near x && (near y && long))) t1 in
+    let t3 = and-r (leb first mostLent) (near x && (near y && long)) t2 in
     let t4 = and-r (near x) (near y && long) t3 in
     let bx = near-bounds x (and-l (near x) (near y && long) t3) in
     let by = near-bounds y (and-l (near y) long t4) in (
       record {
-        narrow = leb→le _ _ (and-l (leb size 4096) (leb count 4096 && (leb first 4096 && (near x && (near y && long)))) t0);
-        short = leb→le _ _ (and-l (leb count 4096) (leb first 4096 && (near x && (near y && long))) t1);
-        high = leb→le _ _ (and-l (leb first 4096) (near x && (near y && long)) t2);
+        narrow = leb→le _ _ (and-l (leb size mostLent) (leb count mostLent && (leb first mostLent && (near x && (near y && long)))) t0);
+        short = leb→le _ _ (and-l (leb count mostLent) (leb first mostLent && (near x && (near y && long))) t1);
+        high = leb→le _ _ (and-l (leb first mostLent) (near x && (near y && long)) t2);
         long = leb→le _ _ (and-r (near y) long t4);
       },
       record { x-least = omega arith; x-most = bx .1; base-least = omega arith; base-most = by .1 },

@@ -1,1 +1,1 @@
-pub mod Admitted
+pub mod Admitted  -- what is admitted is what the painter asks

@@ -6,20 +6,21 @@ use Prim.Native.Nat.{ℕ, _*_, _/_}
 use lib.Dec.{leb, ltb}
 use lib.ListN.{length}
 use Rattle.font.specs.Font.{tableOf, glyphRows}
-use Rattle.font.specs.Blend.{colorBytes}
+use Rattle.font.specs.Colors.{colorBytes}
 use Rattle.font.specs.Slant.{rowOffsets}
-use Rattle.font.specs.Stroke.{origin, strokeRow, eachRow}
+use Rattle.font.specs.Paint.{origin, strokeRow, eachRow}
+use Rattle.font.specs.Lent.{mostLent}
 
--- a place from 2^25 up to 2^27; the picture's corner is at 2^26
+-- a position from 2^25 up to 2^27; the picture's corner is at 2^26
 unfoldable pub near : ℕ → Bool
 near x = leb (origin / 2) x && ltb x (2 * origin)
 
--- n bytes hold the rows of a part, and the stroke's place is near
+-- n bytes hold the rows of a part, and the stroke's position is near
 unfoldable pub admitted : ℕ → ℕ → ℕ → ℕ → ℕ → ℕ → Bool
 admitted n width rows first x y =
-    leb width 4096 && (leb rows 4096 && (leb first 4096 && (near x && (near y && leb (rows * (4 * width)) n))))
+    leb width mostLent && (leb rows mostLent && (leb first mostLent && (near x && (near y && leb (rows * (4 * width)) n))))
 
--- the part l after one stroke; a part, or a place, that is not admitted changes nothing
+-- the part l after one stroke; a part, or a position, that is not admitted changes nothing
 unfoldable pub stroked : ℕ → ℕ → ℕ → ℕ → Bool → Bool → ℕ → ℕ → ℕ → List ℕ → List ℕ
 stroked width rows first code bold italic k x y l =
     cond (admitted (length l) width rows first x y)

@@ -35,6 +35,8 @@ fn is_near(x: usize) -> bool
     x < 2 * font::ORIGIN
 }
 
+// Whether n bytes hold these rows, and the position is near. 4,096 is the most columns, and the most
+// rows, of a picture of which the painter is lent a part (`mostLent` of the font).
 fn is_admitted(n: usize, rows: Rows, at: Spot) -> bool
     ensures { λ r. ⌜ r ≡ admitted n (rows .width) (rows .count) (rows .first) (at .x) (at .base) ⌝ }
 {

@@ -8,13 +8,13 @@ use lib.ListN.{length}
 use Rattle.tape.specs.Outcome.{Outcome, accepted, refused, andThen}
 use Rattle.tape.proofs.Calls.{Bounded, refuse-bounded}
 use Rattle.compositor.specs.declared.Settings.{Settings}
-use Rattle.compositor.specs.Strokes.{Stroke}
+use Rattle.compositor.specs.Order.{Stroke}
 use Rattle.compositor.specs.Draw.{Tapes}
 use Rattle.compositor.proofs.Answers.{Few, cue-bounded}
 use Rattle.job.specs.declared.JobRecord.{JobRecord}
 use Rattle.job.specs.Stripes.{Division, mostStripes, hasStripe, stripesFault, divisionOf, counterOf, countersUnsound}
 use Rattle.job.specs.Work.{openCall, stripeCall, workCall}
-use Rattle.job.proofs.Jobs.{strokes-done}
+use Rattle.job.proofs.CallWork.{strokes-done}
 
 -- the largest number of a refusal
 abbrev pub mostNumber : ℕ

@@ -1,5 +1,6 @@
--- The records that a history is told with are the contracts of `open` and `work`: these ask nothing of their callers, and what the check reads
--- off their `ensures` clauses is `Opened` and `Worked` of what each was given and what it left. Other clauses are refused here.
+-- The records that a history is told with are the contracts of `open` and `work`: these ask nothing of their callers,
+-- and what the check reads off their `ensures` clauses is `Opened` and `Worked` of what each was given and what it
+-- left. Other clauses are refused here.
 use mathlib.Core.Path.{_≡_, refl}
 use contract.Lifetimes.{Lfts}
 use denote.Ref.{now}

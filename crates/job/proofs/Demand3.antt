@@ -1,6 +1,7 @@
--- DEMAND 3 holds: `demand-3`, near the end; `possible`: there is a history of every list of calls; and `finished`: once every stripe has had all
--- strokes, the picture is Draw's. By recursion on the history: after each call the picture is one expression of how many strokes each stripe has had.
--- Nothing here looks into a division, a record or what a tape means: it leans on their laws alone.
+-- DEMAND 3 holds: `demand-3`, near the end; `possible`: there is a history of every list of calls; and `finished`: once
+-- every stripe has had all strokes, the picture is Draw's. By recursion on the history: after each call the picture is
+-- one expression of how many strokes each stripe has had. Nothing here looks into a division, a record or what a tape
+-- means: it leans on their laws alone.
 use mathlib.Core.Path.{_≡_, _∙_, refl, sym, ap, ap₂, subst, subst₂, subst₃}
 use mathlib.Core.Bool.{Bool, true, false, cond, not, true≢false}
 use mathlib.Core.List.{List, [], _∷_, map}
@@ -17,24 +18,24 @@ use Rattle.tape.specs.Outcome.{Outcome, accepted, refused, refuseIf, onAccepted
 use Rattle.tape.specs.Call.{answerOf, changed, free}
 use Rattle.tape.specs.Tape.{leastRoom}
 use Rattle.tape.proofs.Calls.{accepts, happens, accepted-is}
-use Rattle.font.specs.Stroke.{eachRow}
+use Rattle.font.specs.Paint.{eachRow}
 use Rattle.font.proofs.Rows.{rows-then, rows-kept, rows-behind, rows-length, rows-front, row-at}
 use Rattle.compositor.specs.declared.Settings.{Settings}
 use Rattle.compositor.specs.Settings.{rowBytes, pictureBytes}
-use Rattle.compositor.specs.Strokes.{Stroke}
-use Rattle.compositor.specs.Picture.{strokesOn, rowAfter, pictureAfter, cleared, rowOf}
+use Rattle.compositor.specs.Order.{Stroke}
+use Rattle.compositor.specs.Picture.{strokesOn, rowAfter, pictureAfter, cleared}
 use Rattle.compositor.specs.Draw.{Tapes, tapeStrokes, drawCall, cueCall, drawPicture}
 use Rattle.compositor.proofs.Painting.{strokes-length, strokes-append}
-use Rattle.compositor.proofs.Cleared.{picture-drawn}
-use Rattle.compositor.proofs.Admitted.{cue-fits, cue-own, cue-strokes, cue-again}
+use Rattle.compositor.proofs.ClearedPicture.{picture-drawn}
+use Rattle.compositor.proofs.AcceptedCalls.{cue-fits, cue-extra, cue-strokes, cue-again}
 use Rattle.job.specs.declared.JobRecord.{JobRecord}
 use Rattle.job.specs.declared.JobAnswer.{JobAnswer}
 use Rattle.job.specs.Stripes.{Division, mostStripes, stripeOf, hasStripe, stripesFault, divisionOf, newRecord, counterOf, withCounter, countersUnsound}
 use Rattle.job.specs.Work.{openCall, opening, onStripe, stepped, stripeCall, workCall}
 use Rattle.job.specs.Worked.{Worked}
-use Rattle.job.specs.History.{Call, History, opened, worked, granted, budgets, count, dueOf, Answered, PartlyDrawn, Demand3, asked, Possible}
+use Rattle.job.specs.History.{rowOf, Entry, History, opened, worked, granted, budgets, count, dueOf, AllDue, PartlyDrawn, Demand3, asked, Possible}
 use Rattle.job.proofs.Division.{stripe-low, stripe-there, new-division, new-length, new-counter, with-division, with-length, with-same, with-other, all-sound}
-use Rattle.job.proofs.Jobs.{strokes-done, take-taken}
+use Rattle.job.proofs.CallWork.{strokes-done, take-taken}
 
 -- ---- numbers and lists
 
@@ -46,24 +47,24 @@ one-and-others P {k} one others j = elim (ℕ-discrete j k) [ yes e ↦ subst P 
 
 module _ (ts : List Stroke) (k : ℕ) where
   -- c never passes T
-  count-most : (calls : List Call) → count ts calls k ≤ length ts
+  count-most : (entries : List Entry) → count ts entries k ≤ length ts
   unfolding count
   count-most [] = omega arith
-  count-most (call ∷ before) = by (eqb (call .stripe) k) (count-most before)
+  count-most (entry ∷ before) = by (eqb (entry .stripe) k) (count-most before)
     where
       by : (b : Bool) → count ts before k ≤ length ts
-          → cond b (min (length ts) (count ts before k + granted (call .budget) (call .answer))) (count ts before k) ≤ length ts
+          → cond b (min (length ts) (count ts before k + granted (entry .budget) (entry .answer))) (count ts before k) ≤ length ts
       by true l = omega arith
       by false l = l
 
   -- THE LAW: it is the smaller of T and the sum of the budgets accepted
-  count-summed : (calls : List Call) → count ts calls k ≡ min (length ts) (budgets k calls)
+  count-summed : (entries : List Entry) → count ts entries k ≡ min (length ts) (budgets k entries)
   unfolding count budgets
   count-summed [] = omega arith
-  count-summed (call ∷ before) = by (eqb (call .stripe) k) (count-summed before)
+  count-summed (entry ∷ before) = by (eqb (entry .stripe) k) (count-summed before)
     where
       n : ℕ
-      n = granted (call .budget) (call .answer)
+      n = granted (entry .budget) (entry .answer)
 
       by : (b : Bool) → count ts before k ≡ min (length ts) (budgets k before)
           → cond b (min (length ts) (count ts before k + n)) (count ts before k) ≡ min (length ts) (cond b n 0 + budgets k before)
@@ -102,36 +103,36 @@ module _ (s : Settings) (d : Division) (ts : List Stroke) where
 
 -- ---- a history
 
-abbrev callOf : ℕ → ℕ → ℕ → Answer → Call
-callOf k n room answer = record { stripe = k; budget = n; room = room; answer = answer }
+abbrev entryOf : ℕ → ℕ → ℕ → Answer → Entry
+entryOf k n room answer = record { stripe = k; budget = n; room = room; answer = answer }
 
 module _ (s : Settings) (tape : Tapes) (d : Division) (bytes : List ℕ) (ts : List Stroke) where
   -- what each call keeps, where the caption has the strokes ts
-  record Kept (calls : List Call) (picture : List ℕ) (job : JobRecord) : Type 0 where
+  record Kept (entries : List Entry) (picture : List ℕ) (job : JobRecord) : Type 0 where
     opens : (room : ℕ) → openCall s room (length bytes) tape d ≡ refuseIf (ltb room leastRoom) 11 0 (accepted ts)
-    painted : picture ≡ image s d ts bytes (count ts calls)
+    painted : picture ≡ image s d ts bytes (count ts entries)
     division : divisionOf job ≡ d
     counters : length (job .counters) ≡ mostStripes
-    counted : (k : ℕ) → counterOf job k ≡ count ts calls k
+    counted : (k : ℕ) → counterOf job k ≡ count ts entries k
     past : (k : ℕ) → hasStripe s d k ≡ false → counterOf job k ≡ 0
-    answered : Answered s ts d calls
+    due : AllDue s ts d entries
 
   kept-open : (room : ℕ) → openCall s room (length bytes) tape d ≡ accepted ts → Kept [] (cleared s bytes) (newRecord d)
-  unfolding count Answered strokesOn
+  unfolding count AllDue strokesOn
   kept-open room e =
       record {
         opens = cue-again s room (length bytes) tape (stripesFault s d) e;
         painted =
             sym (rows-kept (strokesOn []) (rowBytes s) (s .height) 0 (cleared s bytes) (λ j row l. refl))
             ∙ picture-drawn s ts 0 bytes;
-        division = new-division s d (cue-own s room (length bytes) tape (stripesFault s d) e);
+        division = new-division s d (cue-extra s room (length bytes) tape (stripesFault s d) e);
         counters = new-length d;
         counted = new-counter d;
         past = λ k l. new-counter d k;
-        answered = tt;
+        due = tt;
       }
 
-  module _ {calls : List Call} {picture : List ℕ} {job : JobRecord} (kept : Kept calls picture job) where
+  module _ {entries : List Entry} {picture : List ℕ} {job : JobRecord} (kept : Kept entries picture job) where
     fits : pictureBytes s ≤ length bytes
     fits = cue-fits s leastRoom (length bytes) tape (stripesFault s d) (kept .opens leastRoom)
 
@@ -139,26 +140,26 @@ module _ (s : Settings) (tape : Tapes) (d : Division) (bytes : List ℕ) (ts : L
     caption = cue-strokes s leastRoom (length bytes) tape (stripesFault s d) (kept .opens leastRoom)
 
     fit : stripesFault s d ≡ 0
-    fit = cue-own s leastRoom (length bytes) tape (stripesFault s d) (kept .opens leastRoom)
+    fit = cue-extra s leastRoom (length bytes) tape (stripesFault s d) (kept .opens leastRoom)
 
-    partly : PartlyDrawn s ts d bytes calls picture job
+    partly : PartlyDrawn s ts d bytes entries picture job
     partly =
-        let c = count ts calls in
+        let c = count ts entries in
         record {
-          row =
+          holds =
               λ y l. ap (λ (p : List ℕ). rowOf s p y) (kept .painted)
               ∙ row-at (rowBy s d ts c) (rowBytes s) (row-long s d ts c) y (s .height) 0 bytes l fits
               ∙ ap (λ (j : ℕ). rowAfter s ts (c (stripeOf d j)) j) (zero-add y);
-          summed = λ k. count-summed ts k calls;
+          summed = λ k. count-summed ts k entries;
           beyond =
               ap (drop (pictureBytes s)) (kept .painted)
               ∙ rows-behind (rowBy s d ts c) (rowBytes s) (row-long s d ts c) (s .height) 0 bytes fits;
-          size = ap length (kept .painted) ∙ rows-length (rowBy s d ts c) (rowBytes s) (row-long s d ts c) (s .height) 0 bytes fits;
-          division = kept .division;
-          counters = kept .counters;
+          sameSize = ap length (kept .painted) ∙ rows-length (rowBy s d ts c) (rowBytes s) (row-long s d ts c) (s .height) 0 bytes fits;
+          sameDivision = kept .division;
+          sixtyFour = kept .counters;
           counted = kept .counted;
           past = kept .past;
-          answered = kept .answered;
+          due = kept .due;
         }
 
     -- 14 does not arise
@@ -166,14 +167,14 @@ module _ (s : Settings) (tape : Tapes) (d : Division) (bytes : List ℕ) (ts : L
     counters-sound = all-sound s d (length ts) 0 (job .counters) (λ j. rw zero-add (small j (hasStripe s d j) refl))
       where
         small : (j : ℕ) (there : Bool) → hasStripe s d j ≡ there → counterOf job j ≤ cond there (length ts) 0
-        small j true e = omega (arith, kept .counted j, count-most ts j calls)
+        small j true e = omega (arith, kept .counted j, count-most ts j entries)
         small j false e = omega (arith, kept .past j e)
 
     -- a call of Work on stripe k with budget n, and a workspace of `room` bytes
     module _ (k n room : ℕ) where
       -- the strokes that it does, if it is not refused
       abbrev strokes : List Stroke
-      strokes = take n (drop (count ts calls k) ts)
+      strokes = take n (drop (count ts entries k) ts)
 
       -- what it comes to, by whether the workspace is short and whether the stripe is there
       abbrev comes : Bool → Bool → Outcome (List Stroke)
@@ -186,7 +187,7 @@ module _ (s : Settings) (tape : Tapes) (d : Division) (bytes : List ℕ) (ts : L
       work-comes : workCall s room (length picture) tape job k n ≡ comes (ltb room leastRoom) (hasStripe s d k)
       unfolding workCall
       work-comes =
-          ap₂ (λ (size : ℕ) (e : Division). andThen (stripeCall s job k n) (openCall s room size tape e)) (partly .size) (kept .division)
+          ap₂ (λ (size : ℕ) (e : Division). andThen (stripeCall s job k n) (openCall s room size tape e)) (partly .sameSize) (kept .division)
           ∙ rw (kept .opens room) (by (ltb room leastRoom))
         where
           by : (short : Bool) → andThen (stripeCall s job k n) (refuseIf short 11 0 (accepted ts)) ≡ comes short (hasStripe s d k)
@@ -194,44 +195,44 @@ module _ (s : Settings) (tape : Tapes) (d : Division) (bytes : List ℕ) (ts : L
           by false = stripe-comes
 
       -- the history with it, by its answer
-      abbrev after : Answer → List Call
-      after answer = callOf k n room answer ∷ calls
+      abbrev after : Answer → List Entry
+      after answer = entryOf k n room answer ∷ entries
 
       -- and where it is accepted
-      abbrev later : List Call
+      abbrev later : List Entry
       later = after (Answer.Accepted (length strokes))
 
       -- a refused budget does not count
-      count-refused : (number j : ℕ) → count ts calls j ≡ count ts (after (Answer.Refused number 0)) j
+      count-refused : (number j : ℕ) → count ts entries j ≡ count ts (after (Answer.Refused number 0)) j
       unfolding count
       count-refused number j = by (eqb k j)
         where
-          by : (b : Bool) → count ts calls j ≡ cond b (min (length ts) (count ts calls j + 0)) (count ts calls j)
-          by true = let most = count-most ts j calls in omega arith
+          by : (b : Bool) → count ts entries j ≡ cond b (min (length ts) (count ts entries j + 0)) (count ts entries j)
+          by true = let most = count-most ts j entries in omega arith
           by false = refl
 
       -- an accepted one counts for its stripe, as far as there are strokes, and for no other
-      count-here : count ts calls k + length strokes ≡ count ts later k
+      count-here : count ts entries k + length strokes ≡ count ts later k
       unfolding count
       count-here =
-          let most = count-most ts k calls in
-          rw (eq-eqb k k refl) (omega (arith, strokes-done ts (count ts calls k) n))
+          let most = count-most ts k entries in
+          rw (eq-eqb k k refl) (omega (arith, strokes-done ts (count ts entries k) n))
 
-      count-other : (j : ℕ) → (j ≡ k → ⊥) → count ts calls j ≡ count ts later j
+      count-other : (j : ℕ) → (j ≡ k → ⊥) → count ts entries j ≡ count ts later j
       unfolding count
       count-other j other = rw (ne-eqb k j (λ e. other (sym e)))
 
       row-painted : (y j : ℕ)
-          → cond (eqb j k) (strokesOn strokes y (rowAfter s ts (count ts calls j) y)) (rowAfter s ts (count ts calls j) y)
+          → cond (eqb j k) (strokesOn strokes y (rowAfter s ts (count ts entries j) y)) (rowAfter s ts (count ts entries j) y)
           ≡ rowAfter s ts (count ts later j) y
       row-painted y =
           one-and-others _
-          (rw (eq-eqb k k refl, ← count-here) (row-more s ts (count ts calls k) n y))
+          (rw (eq-eqb k k refl, ← count-here) (row-more s ts (count ts entries k) n y))
           (λ j other. rw (ne-eqb j k other, count-other j other))
 
       stripe-painted : onStripe s (divisionOf job) k strokes picture ≡ image s d ts bytes (count ts later)
       stripe-painted =
-          let c = count ts calls in
+          let c = count ts entries in
           rw (kept .division, kept .painted)
           (sym (rows-then (rowBy s d ts c) (rowBytes s) (row-long s d ts c) _ (s .height) 0 bytes fits)
           ∙ (λ i. eachRow (λ y row. row-painted y (stripeOf d y) i) (rowBytes s) (s .height) 0 bytes))
@@ -243,8 +244,8 @@ module _ (s : Settings) (tape : Tapes) (d : Division) (bytes : List ℕ) (ts : L
       abbrev Keeps : Outcome (List Stroke) → Type 0
       Keeps o = Kept (after (answerOf (onAccepted length o))) (leaves o .0) (leaves o .1)
 
-      kept-refused : (number : ℕ) → Answer.Refused number 0 ≡ dueOf s ts d (callOf k n room (Answer.Refused number 0)) calls → Keeps (refused number 0)
-      unfolding Answered
+      kept-refused : (number : ℕ) → Answer.Refused number 0 ≡ dueOf s ts d (entryOf k n room (Answer.Refused number 0)) entries → Keeps (refused number 0)
+      unfolding AllDue
       kept-refused number due =
           record {
             opens = kept .opens;
@@ -253,11 +254,11 @@ module _ (s : Settings) (tape : Tapes) (d : Division) (bytes : List ℕ) (ts : L
             counters = kept .counters;
             counted = λ j. kept .counted j ∙ count-refused number j;
             past = kept .past;
-            answered = (due, kept .answered);
+            due = (due, kept .due);
           }
 
       kept-accepted : ltb room leastRoom ≡ false → hasStripe s d k ≡ true → Keeps (accepted strokes)
-      unfolding Answered
+      unfolding AllDue
       kept-accepted wide there =
           let c = counterOf job k + length strokes in
           let low : k < length (job .counters) = omega (arith, stripe-low s d fit k there, kept .counters) in
@@ -272,7 +273,7 @@ module _ (s : Settings) (tape : Tapes) (d : Division) (bytes : List ℕ) (ts : L
                 (λ j other. with-other job k c j other ∙ kept .counted j ∙ count-other j other);
             past =
                 λ j e. with-other job k c j (λ q. true≢false (sym there ∙ ap (hasStripe s d) (sym q) ∙ e)) ∙ kept .past j e;
-            answered = (rw (wide, there) (ap Answer.Accepted (omega (arith, count-here))), kept .answered);
+            due = (rw (wide, there) (ap Answer.Accepted (omega (arith, count-here))), kept .due);
           }
 
       kept-work : Keeps (workCall s room (length picture) tape job k n)
@@ -284,8 +285,8 @@ module _ (s : Settings) (tape : Tapes) (d : Division) (bytes : List ℕ) (ts : L
           by false true p q = kept-accepted p q
 
 module _ (s : Settings) (tape : Tapes) (d : Division) (bytes : List ℕ) where
-  all-kept : {calls : List Call} {picture : List ℕ} {job : JobRecord} → History s tape d bytes calls picture job
-      → (ts : List Stroke) × Kept s tape d bytes ts calls picture job
+  all-kept : {entries : List Entry} {picture : List ℕ} {job : JobRecord} → History s tape d bytes entries picture job
+      → (ts : List Stroke) × Kept s tape d bytes ts entries picture job
   all-kept (opened {ws} total o e) =
       let found = accepted-is o e in
       let ts = found .given in (
@@ -295,11 +296,11 @@ module _ (s : Settings) (tape : Tapes) (d : Division) (bytes : List ℕ) where
             (sym (ap (λ (x : List ℕ × JobRecord). x .1) (found .changes)))
             (kept-open s tape d bytes ts (length ws) (found .means)),
       )
-  all-kept (worked {calls} {ws} k n before w) =
+  all-kept (worked {entries} {ws} k n before w) =
       let found = all-kept before in
       let ts = found .0 in (
         ts,
-        subst₃ (λ (answer : Answer). Kept s tape d bytes ts (callOf k n (length ws) answer ∷ calls))
+        subst₃ (λ (answer : Answer). Kept s tape d bytes ts (entryOf k n (length ws) answer ∷ entries))
             (sym (w .answers))
             (sym (ap (λ (x : List ℕ × JobRecord). x .0) (w .changes)))
             (sym (ap (λ (x : List ℕ × JobRecord). x .1) (w .changes)))
@@ -308,7 +309,7 @@ module _ (s : Settings) (tape : Tapes) (d : Division) (bytes : List ℕ) where
 
 -- DEMAND 3
 pub demand-3 : Demand3
-demand-3 s tape d bytes calls picture job history =
+demand-3 s tape d bytes entries picture job history =
     let found = all-kept s tape d bytes history in
     let ts = found .0 in
     (ts, caption s tape d bytes ts (found .1), partly s tape d bytes ts (found .1))
@@ -321,16 +322,16 @@ possible s tape d bytes ws ts e wishes = go wishes
     first : JobAnswer
     first = record { answer = Answer.Accepted (length ts); job = newRecord d }
 
-    go : (wishes : List (ℕ × ℕ × List ℕ)) → (calls : List Call) × (picture : List ℕ) × (job : JobRecord)
-        × History s tape d bytes calls picture job
-        × (map asked calls ≡ map (λ w. (w .0, w .1, length (w .2))) wishes)
+    go : (wishes : List (ℕ × ℕ × List ℕ)) → (entries : List Entry) × (picture : List ℕ) × (job : JobRecord)
+        × History s tape d bytes entries picture job
+        × (map asked entries ≡ map (λ w. (w .0, w .1, length (w .2))) wishes)
     go [] = ([], cleared s bytes, newRecord d, opened {ws = ws} {ws' = ws} {r = first} (length ts) (accepts e refl refl tt) refl, refl)
     go (w ∷ rest) =
         let before = go rest in
         let o = workCall s (length (w .2)) (length (before .1)) tape (before .2) (w .0) (w .1) in
         let x = changed (stepped s (before .2) (w .0) (before .1)) (before .1, before .2) o in
         let r : JobAnswer = record { answer = answerOf (onAccepted length o); job = x .1 } in (
-          callOf (w .0) (w .1) (length (w .2)) (r .answer) ∷ before .0,
+          entryOf (w .0) (w .1) (length (w .2)) (r .answer) ∷ before .0,
           x .0,
           x .1,
           worked {ws = w .2} {ws' = w .2} {r = r} (w .0) (w .1) (before .3) (happens o (λ us. tt)),
@@ -339,16 +340,17 @@ possible s tape d bytes ws ts e wishes = go wishes
 
 -- ---- and its end
 
--- after such calls, where each stripe's counter has come to T, the picture is what Draw leaves, with any workspace that is large enough
-pub finished : (s : Settings) (tape : Tapes) (d : Division) (bytes : List ℕ) (calls : List Call) (picture : List ℕ) (job : JobRecord)
-    → History s tape d bytes calls picture job → (ts : List Stroke) → tapeStrokes s tape ≡ accepted ts
+-- after such calls, where each stripe's counter has come to T, the picture is what Draw leaves, with any workspace that
+-- is large enough
+pub finished : (s : Settings) (tape : Tapes) (d : Division) (bytes : List ℕ) (entries : List Entry) (picture : List ℕ) (job : JobRecord)
+    → History s tape d bytes entries picture job → (ts : List Stroke) → tapeStrokes s tape ≡ accepted ts
     → ((k : ℕ) → hasStripe s d k ≡ true → counterOf job k ≡ length ts) → (room : ℕ) → leastRoom ≤ room
     → picture ≡ changed (drawPicture s bytes) bytes (drawCall s room (length bytes) tape)
-finished s tape d bytes calls picture job history ts e all room enough =
+finished s tape d bytes entries picture job history ts e all room enough =
     let found = all-kept s tape d bytes history in
     let us = found .0 in
     let kept = found .1 in
     let same : ts ≡ us = cc (caption s tape d bytes us kept) in
     let drawn : drawCall s room (length bytes) tape ≡ accepted us =
     ap (cueCall s room (length bytes) tape) (sym (fit s tape d bytes us kept)) ∙ kept .opens room ∙ rw (le-ltb room leastRoom enough) in
-    rw drawn (kept .painted ∙ image-all s d us (fit s tape d bytes us kept) bytes (count us calls) (λ k there. sym (kept .counted k) ∙ all k there ∙ ap length same))
+    rw drawn (kept .painted ∙ image-all s d us (fit s tape d bytes us kept) bytes (count us entries) (λ k there. sym (kept .counted k) ∙ all k there ∙ ap length same))

@@ -10,12 +10,12 @@ use borrow.Author.Tests.{eq-eqb, ne-eqb, eqb-false, lt-ltb, le-ltb, ltb-true, lt
 use lib.Dec.{eqb, ltb}
 use lib.ListN.{length, getD, take, drop, replicate, length-drop, length-set, drop-of-length-le}
 use lib.Seq.{drop-cons, getD-set-same, getD-set-other}
-use Rattle.font.specs.Stroke.{eachRow}
+use Rattle.font.specs.Paint.{eachRow}
 use Rattle.font.proofs.Rows.{rows-skip, rows-front, rows-part}
-use Rattle.wrap.proofs.Whole.{or-none}
+use Rattle.wrap.proofs.CallWrap.{or-none}
 use Rattle.compositor.specs.declared.Settings.{Settings}
 use Rattle.compositor.specs.Settings.{rowBytes, pictureBytes}
-use Rattle.compositor.specs.Strokes.{Stroke}
+use Rattle.compositor.specs.Order.{Stroke}
 use Rattle.compositor.specs.Picture.{strokesOn}
 use Rattle.job.specs.declared.JobRecord.{JobRecord}
 use Rattle.job.specs.Stripes.{Division, mostStripes, firstRow, stripeOf, hasStripe, stripesFault, divisionOf, newRecord, counterOf, withCounter, countersUnsound}

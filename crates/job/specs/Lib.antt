@@ -1,5 +1,5 @@
--- The definitions in reading order, with the contracts of the calls and demand 3; then the promises that the crate's functions make to each
--- other.
+-- The definitions in reading order, with the contracts of the calls and demand 3; then the promises that the crate's
+-- functions make to each other.
 pub mod Stripes
 pub mod Work
 pub mod Worked

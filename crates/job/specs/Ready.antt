@@ -8,7 +8,7 @@ use Rattle.tape.specs.Outcome.{Outcome}
 use Rattle.tape.specs.Call.{free, Came}
 use Rattle.compositor.specs.declared.Settings.{Settings}
 use Rattle.compositor.specs.Settings.{pictureBytes}
-use Rattle.compositor.specs.Strokes.{Stroke}
+use Rattle.compositor.specs.Order.{Stroke}
 use Rattle.compositor.specs.Read.{strokesIn}
 use Rattle.compositor.specs.Ready.{InRange, Lined, mostStrokes}
 use Rattle.job.specs.declared.JobRecord.{JobRecord}

@@ -4,11 +4,11 @@ use mathlib.Core.List.{List}
 use Prim.Native.Nat.{ℕ, _+_}
 use lib.Dec.{eqb}
 use lib.ListN.{length, take, drop}
-use Rattle.font.specs.Stroke.{eachRow}
+use Rattle.font.specs.Paint.{eachRow}
 use Rattle.tape.specs.Outcome.{Outcome, accepted, refuseIf, andThen}
 use Rattle.compositor.specs.declared.Settings.{Settings}
 use Rattle.compositor.specs.Settings.{rowBytes}
-use Rattle.compositor.specs.Strokes.{Stroke}
+use Rattle.compositor.specs.Order.{Stroke}
 use Rattle.compositor.specs.Picture.{strokesOn, cleared}
 use Rattle.compositor.specs.Draw.{Tapes, cueCall}
 use Rattle.job.specs.declared.JobRecord.{JobRecord}
@@ -16,19 +16,21 @@ use Rattle.job.specs.Stripes.{Division, stripeOf, hasStripe, stripesFaul
 
 -- ---- Open
 
--- What a call of Open comes to, with a workspace of `room` bytes, a picture's buffer of `size` and this division: what every call that draws comes
--- to, with 13 before the tape's faults. Accepted, it has the caption's strokes, and answers how many they are.
+-- What a call of Open comes to, with a workspace of `room` bytes, a picture's buffer of `size` and this division: what
+-- every call that draws comes to, with 13 before the tape's faults. Accepted, it has the caption's strokes, and answers
+-- how many they are.
 abbrev pub openCall : Settings → ℕ → ℕ → Tapes → Division → Outcome (List Stroke)
 openCall s room size tape d = cueCall s room size tape (stripesFault s d)
 
--- what an accepted Open leaves, where the picture's buffer held `bytes`: the picture is zeroed, and the job has done nothing yet
+-- what an accepted Open leaves, where the picture's buffer held `bytes`: the picture is zeroed, and the job has done
+-- nothing yet
 abbrev pub opening : Settings → Division → List ℕ → List Stroke → List ℕ × JobRecord
 opening s d bytes ts = (cleared s bytes, newRecord d)
 
 -- ---- a step on a stripe
 
--- the strokes that a step on stripe k with budget n does, where the caption has the strokes ts: those from number c on, c the stripe's counter, n of
--- them, or as many as are left, so that they are min(n, T − c)
+-- the strokes that a step on stripe k with budget n does, where the caption has the strokes ts: those from number c on,
+-- c the stripe's counter, n of them, or as many as are left, so that they are min(n, T − c)
 abbrev pub stepStrokes : JobRecord → ℕ → ℕ → List Stroke → List Stroke
 stepStrokes job k n ts = take n (drop (counterOf job k) ts)
 
@@ -37,9 +39,10 @@ abbrev pub onStripe : Settings → Division → ℕ → List Stroke → List ℕ
 onStripe s d k ts bytes =
     eachRow (λ y row. cond (eqb (stripeOf d y) k) (strokesOn ts y row) row) (rowBytes s) (s .height) 0 bytes
 
--- what a step leaves that does the strokes ts: they are on the rows of stripe k, and its counter has grown by as many as they are
+-- what an accepted Work leaves that has done the strokes `done`: they are on the rows of stripe k, and its counter has
+-- grown by as many as they are
 abbrev pub stepped : Settings → JobRecord → ℕ → List ℕ → List Stroke → List ℕ × JobRecord
-stepped s job k bytes ts = (onStripe s (divisionOf job) k ts bytes, withCounter job k (counterOf job k + length ts))
+stepped s job k bytes done = (onStripe s (divisionOf job) k done bytes, withCounter job k (counterOf job k + length done))
 
 -- ---- Work
 
@@ -50,10 +53,12 @@ refuseRecord s job ts o = refuseIf (countersUnsound s (divisionOf job) (length t
 abbrev pub refuseStripe : {A : Type 0} → Settings → JobRecord → ℕ → Outcome A → Outcome A
 refuseStripe s job k o = refuseIf (not (hasStripe s (divisionOf job) k)) 12 0 o
 
--- what Work on stripe k with budget n comes to, where the caption has the strokes ts: 14, 12, or the strokes that a step does
+-- what Work on stripe k with budget n comes to, where the caption has the strokes ts: 14, 12, or the strokes that a
+-- step does
 unfoldable pub stripeCall : Settings → JobRecord → ℕ → ℕ → List Stroke → Outcome (List Stroke)
 stripeCall s job k n ts = refuseRecord s job ts (refuseStripe s job k (accepted (stepStrokes job k n ts)))
 
--- What a call of Work comes to: what Open of the record's division is refused by, and then these. It answers how many strokes it does.
+-- What a call of Work comes to: what Open of the record's division is refused by, and then these. It answers how many
+-- strokes it does.
 unfoldable pub workCall : Settings → ℕ → ℕ → Tapes → JobRecord → ℕ → ℕ → Outcome (List Stroke)
 workCall s room size tape job k n = andThen (stripeCall s job k n) (openCall s room size tape (divisionOf job))

@@ -1,4 +1,5 @@
--- THE CONTRACTS OF OPEN AND WORK: what each call answers and what it leaves, for every input. The history of calls is told with them.
+-- THE CONTRACTS OF OPEN AND WORK: what each call answers and what it leaves, for every input. The history of calls is
+-- told with them.
 use mathlib.Core.List.{List}
 use Prim.Native.Nat.{ℕ}
 use lib.ListN.{length}
@@ -10,8 +11,8 @@ use Rattle.job.specs.declared.JobAnswer.{JobAnswer}
 use Rattle.job.specs.Stripes.{Division, noRecord}
 use Rattle.job.specs.Work.{openCall, opening, workCall, stepped}
 
--- Open with a division d: the workspace and the picture's buffer before and after, and what it gave: how many strokes the caption has, and a
--- record, which is all zeros where Open is refused
+-- Open with a division d: the workspace and the picture's buffer before and after, and what it gave: how many strokes
+-- the caption has, and a record, which is all zeros where Open is refused
 abbrev pub Opened : Settings → Tapes → List ℕ → List ℕ → List ℕ → List ℕ → Division → JobAnswer → Type 0
 Opened s tape ws ws' picture picture' d r =
     Came (openCall s (length ws) (length picture) tape d) length (opening s d picture) free (picture, noRecord) (picture', r .job) ws ws' (r .answer)

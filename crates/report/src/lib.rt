@@ -2,11 +2,12 @@
 // Each function that writes is false where the output takes no more.
 ghost use Prim.Native.Nat.{_+_, _≤_, _<_};
 ghost use lib.ListN.{length};
+ghost use Rattle.report.specs.Bounds.{twoByteNumbers, mostHeader};
 use libc::STDOUT_FILENO;
 
 // The number in two bytes.
 fn two(high: u8, low: u8) -> usize
-    ensures { λ r. ⌜ r < 65536 ⌝ }
+    ensures { λ r. ⌜ r < twoByteNumbers ⌝ }
 {
     high as usize * 256 + low as usize
 }
@@ -14,7 +15,7 @@ fn two(high: u8, low: u8) -> usize
 // The number in two bytes at a place, high byte first.
 pub fn number_at(bytes: &[u8], at: usize) -> usize
     requires { ⌜ at + 2 ≤ length (now bytes) ⌝ }
-    ensures { λ r. ⌜ r < 65536 ⌝ }
+    ensures { λ r. ⌜ r < twoByteNumbers ⌝ }
 {
     two(bytes[at], bytes[at + 1])
 }
@@ -22,7 +23,7 @@ pub fn number_at(bytes: &[u8], at: usize) -> usize
 // Where the entry of a sample ends that begins at a place: behind a header, whose last two bytes say
 // how many bytes follow it, and those. Past the entries' end where it is cut short.
 pub fn entry_end(entries: &[u8], at: usize, header: usize) -> usize
-    requires { ⌜ (at < length (now entries)) × (2 ≤ header) × (header ≤ 65536) ⌝ }
+    requires { ⌜ (at < length (now entries)) × (2 ≤ header) × (header ≤ mostHeader) ⌝ }
     ensures { λ r. ⌜ (r ≤ length (now (entries .entry)) → at + header ≤ r) ⌝ }
 {
     if entries.len() - at < header {

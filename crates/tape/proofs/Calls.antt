@@ -1,4 +1,5 @@
--- THE CONTRACT OF A CALL, for every call: how it is met, what an answer tells, how far an outcome may go, and an answer as one number.
+-- THE CONTRACT OF A CALL, for every call: how it is met, what an answer tells, how far an outcome may go, and an answer
+-- as one number.
 use mathlib.Core.Path.{_≡_, _∙_, refl, sym, ap, subst}
 use mathlib.Core.Bool.{Bool, true, false, _&&_, _||_, true≢false}
 use mathlib.Core.List.{List}
@@ -15,21 +16,21 @@ use Rattle.tape.specs.Near.{Near}
 
 -- ---- met
 
-module _ {A X : Type 0} {o : Outcome A} {count : A → ℕ} {f : A → X} {Holds : A → Type 0} {x : X} {ws ws' : List ℕ} where
+module _ {A X : Type 0} {o : Outcome A} {tally : A → ℕ} {f : A → X} {Holds : A → Type 0} {x : X} {ws ws' : List ℕ} where
   -- the call comes to what another outcome is
-  pub comes-to : {u : Outcome A} {x' : X} {answer : Answer} → o ≡ u → Came u count f Holds x x' ws ws' answer → Came o count f Holds x x' ws ws' answer
-  comes-to {x' = x'} {answer} e c = subst (λ (y : Outcome A). Came y count f Holds x x' ws ws' answer) (sym e) c
+  pub comes-to : {u : Outcome A} {x' : X} {answer : Answer} → o ≡ u → Came u tally f Holds x x' ws ws' answer → Came o tally f Holds x x' ws ws' answer
+  comes-to {x' = x'} {answer} e c = subst (λ (y : Outcome A). Came y tally f Holds x x' ws ws' answer) (sym e) c
 
   pub refuses : {number place : ℕ} → o ≡ refused number place → (keepsWorkspace number ≡ true → ws' ≡ ws)
-      → Came o count f Holds x x ws ws' (Answer.Refused number place)
+      → Came o tally f Holds x x ws ws' (Answer.Refused number place)
   refuses e k = comes-to e (record { answers = refl; changes = refl; leaves = k })
 
-  pub accepts : {a : A} {n : ℕ} {x' : X} → o ≡ accepted a → n ≡ count a → x' ≡ f a → Holds a → Came o count f Holds x x' ws ws' (Answer.Accepted n)
+  pub accepts : {a : A} {n : ℕ} {x' : X} → o ≡ accepted a → n ≡ tally a → x' ≡ f a → Holds a → Came o tally f Holds x x' ws ws' (Answer.Accepted n)
   accepts e n p h = comes-to e (record { answers = ap Answer.Accepted n; changes = p; leaves = h })
 
 -- what an outcome leaves is what a call may leave that comes to it
-pub happens : {A X : Type 0} {count : A → ℕ} {f : A → X} {Holds : A → Type 0} {x : X} {ws : List ℕ} (o : Outcome A) → ((a : A) → Holds a)
-    → Came o count f Holds x (changed f x o) ws ws (answerOf (onAccepted count o))
+pub happens : {A X : Type 0} {tally : A → ℕ} {f : A → X} {Holds : A → Type 0} {x : X} {ws : List ℕ} (o : Outcome A) → ((a : A) → Holds a)
+    → Came o tally f Holds x (changed f x o) ws ws (answerOf (onAccepted tally o))
 happens {A} {Holds = Holds} {ws = ws} o all = record { answers = refl; changes = refl; leaves = by o }
   where
     by : (o : Outcome A) → Workspace Holds ws ws o
@@ -38,10 +39,10 @@ happens {A} {Holds = Holds} {ws = ws} o all = record { answers = refl; changes =
 
 -- ---- told
 
-pub record Accepts {A X : Type 0} (o : Outcome A) (count : A → ℕ) (f : A → X) (Holds : A → Type 0) (x' : X) (n : ℕ) : Type 0 where
+pub record Accepts {A X : Type 0} (o : Outcome A) (tally : A → ℕ) (f : A → X) (Holds : A → Type 0) (x' : X) (n : ℕ) : Type 0 where
   pub given : A
   pub means : o ≡ accepted given
-  pub counts : n ≡ count given
+  pub counts : n ≡ tally given
   pub changes : x' ≡ f given
   pub holds : Holds given
 
@@ -50,20 +51,20 @@ pub record Refuses {A X : Type 0} (o : Outcome A) (x x' : X) (ws ws' : List ℕ)
   pub same : x' ≡ x
   pub keeps : keepsWorkspace number ≡ true → ws' ≡ ws
 
-module _ {A X : Type 0} {o : Outcome A} {count : A → ℕ} {f : A → X} {Holds : A → Type 0} {x x' : X} {ws ws' : List ℕ} {r : Answer}
-    (c : Came o count f Holds x x' ws ws' r) where
-  pub accepted-is : {n : ℕ} → r ≡ Answer.Accepted n → Accepts o count f Holds x' n
+module _ {A X : Type 0} {o : Outcome A} {tally : A → ℕ} {f : A → X} {Holds : A → Type 0} {x x' : X} {ws ws' : List ℕ} {r : Answer}
+    (c : Came o tally f Holds x x' ws ws' r) where
+  pub accepted-is : {n : ℕ} → r ≡ Answer.Accepted n → Accepts o tally f Holds x' n
   accepted-is {n} is = go o refl (sym is ∙ c .answers) (c .changes) (c .leaves)
     where
-      go : (u : Outcome A) → o ≡ u → Answer.Accepted n ≡ answerOf (onAccepted count u) → x' ≡ changed f x u → Workspace Holds ws ws' u
-          → Accepts o count f Holds x' n
+      go : (u : Outcome A) → o ≡ u → Answer.Accepted n ≡ answerOf (onAccepted tally u) → x' ≡ changed f x u → Workspace Holds ws ws' u
+          → Accepts o tally f Holds x' n
       go (accepted a) e q p h = record { given = a; means = e; counts = cc; changes = p; holds = h }
       go (refused number place) e q p h = let z : _≡_ {A = ℕ} 0 1 = cc in absurd (omega arith)
 
   pub refused-is : {number place : ℕ} → r ≡ Answer.Refused number place → Refuses o x x' ws ws' number place
   refused-is {number} {place} is = go o refl (sym is ∙ c .answers) (c .changes) (c .leaves)
     where
-      go : (u : Outcome A) → o ≡ u → Answer.Refused number place ≡ answerOf (onAccepted count u) → x' ≡ changed f x u → Workspace Holds ws ws' u
+      go : (u : Outcome A) → o ≡ u → Answer.Refused number place ≡ answerOf (onAccepted tally u) → x' ≡ changed f x u → Workspace Holds ws ws' u
           → Refuses o x x' ws ws' number place
       go (accepted a) e q p h = let z : _≡_ {A = ℕ} 0 1 = cc in absurd (omega arith)
       go (refused m at) e q p h =
@@ -112,13 +113,13 @@ pub record Packs (answer : Answer) : Type 0 where
   pub near : Near answer
   pub back : unpacked (packed answer) ≡ answer
 
-module _ {A : Type 0} (count : A → ℕ) (most : ℕ) where
-  pub packs : (o : Outcome A) → Bounded (λ a. count a < 2 ^ 32) most o → {answer : Answer} → answer ≡ answerOf (onAccepted count o) → Packs answer
+module _ {A : Type 0} (tally : A → ℕ) (most : ℕ) where
+  pub packs : (o : Outcome A) → Bounded (λ a. tally a < 2 ^ 32) most o → {answer : Answer} → answer ≡ answerOf (onAccepted tally o) → Packs answer
   unfolding unpacked
   packs o b e = subst Packs (sym e) (by o b)
     where
-      by : (o : Outcome A) → Bounded (λ a. count a < 2 ^ 32) most o → Packs (answerOf (onAccepted count o))
-      by (accepted a) b = record { near = tt; back = rw (lt-ltb (count a) (2 ^ 32) b) }
+      by : (o : Outcome A) → Bounded (λ a. tally a < 2 ^ 32) most o → Packs (answerOf (onAccepted tally o))
+      by (accepted a) b = record { near = tt; back = rw (lt-ltb (tally a) (2 ^ 32) b) }
       by (refused number place) b =
           let least = b .least in
           let near = b .near in

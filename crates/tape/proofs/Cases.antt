@@ -1,4 +1,4 @@
--- Document 01's tapes, and some more, by computation. What lines the tapes of a to g make is for the layers above.
+-- Tapes and what they mean, or why they are refused, by computation. Document 01's cases a to l stand in one table, in compositor's `Cases`.
 use mathlib.Core.Path.{_≡_, refl}
 use mathlib.Core.Bool.{true}
 use mathlib.Core.List.{List, [], _∷_, _++_}
@@ -6,7 +6,7 @@ use Prim.Native.Nat.{ℕ}
 use lib.ListN.{replicate}
 use Rattle.tape.specs.declared.Style.{Style}
 use Rattle.tape.specs.Outcome.{accepted, refused}
-use Rattle.tape.specs.Style.{bold, italic, color, inside, defaultWith, sameStyle}
+use Rattle.tape.specs.Style.{boldList, italicList, colorList, inside, defaultWith, sameStyle}
 use Rattle.tape.specs.Command.{codePoint, isLetter, isOpener, isScalar, added, faultOf, commandOf}
 use Rattle.tape.specs.Runs.{Run, run, mergeInto, lettersOf}
 use Rattle.tape.specs.Tape.{read, tapeRuns, tapeLetters}
@@ -19,44 +19,25 @@ white = defaultWith (0xff ∷ 0xff ∷ 0xff ∷ 0xff ∷ [])
 abbrev Means : List ℕ → List Run → Type 0
 Means tape rs = tapeRuns white tape ≡ accepted rs
 
--- letters without a style, which are one run
-abbrev Plain : List ℕ → Type 0
-Plain codes = Means (lettersBytes codes) (run white codes ∷ [])
-
 abbrev Refuses : List ℕ → ℕ → ℕ → Type 0
 Refuses tape number place = tapeRuns white tape ≡ refused number place
 
 abbrev red : Style → Style
-red s = inside (color 0xff 0 0) s
+red s = inside (colorList 0xff 0 0) s
 
 -- n plain groups, one in the other
 abbrev nested : ℕ → List ℕ → List ℕ
 nested n tape = replicate n 0x0a ++ (tape ++ replicate n 0x00)
 
 pub record Cases : Type 0 where
-  pub a : Means [] []
-  pub b : Plain (0x41 ∷ 0x42 ∷ 0x43 ∷ 0x44 ∷ [])
-  pub c : Plain (0x41 ∷ 0x42 ∷ 0x43 ∷ 0x44 ∷ 0x45 ∷ [])
-  pub d :
-      Means (lettersBytes (0x41 ∷ 0x42 ∷ 0x43 ∷ 0x44 ∷ 0x45 ∷ 0x46 ∷ 0x47 ∷ 0x48 ∷ []) ++ (0x05 ∷ 0x02 ∷ 0x49 ∷ []))
-      (run white (0x41 ∷ 0x42 ∷ 0x43 ∷ 0x44 ∷ 0x45 ∷ 0x46 ∷ 0x47 ∷ 0x48 ∷ 0x0a ∷ 0x49 ∷ []) ∷ [])
-  pub e : Plain (0x41 ∷ 0x42 ∷ 0x01 ∷ 0x43 ∷ 0x44 ∷ 0x45 ∷ [])
-  pub f : Plain (0x41 ∷ 0x20 ∷ 0x20 ∷ 0x42 ∷ [])
   -- the bold empty text keeps A and B in two runs
-  pub g :
+  pub parted :
       Means (0x02 ∷ 0x58 ∷ 0x02 ∷ 0x20 ∷ 0x02 ∷ 0x41 ∷ 0x06 ∷ 0x01 ∷ 0x00 ∷ 0x02 ∷ 0x42 ∷ [])
-      (run white (0x58 ∷ 0x20 ∷ 0x41 ∷ []) ∷ run (inside bold white) [] ∷ run white (0x42 ∷ []) ∷ [])
-  pub g-without : Plain (0x58 ∷ 0x20 ∷ 0x41 ∷ 0x42 ∷ [])
+      (run white (0x58 ∷ 0x20 ∷ 0x41 ∷ []) ∷ run (inside boldList white) [] ∷ run white (0x42 ∷ []) ∷ [])
   -- and B starts a run
-  pub g-letters :
+  pub parted-letters :
       tapeLetters white (0x02 ∷ 0x41 ∷ 0x06 ∷ 0x01 ∷ 0x00 ∷ 0x02 ∷ 0x42 ∷ [])
       ≡ accepted (record { code = 0x41; style = white; start = true } ∷ record { code = 0x42; style = white; start = true } ∷ [])
-  pub k-06 : Refuses (0x06 ∷ []) 3 1
-  pub k-00 : Refuses (0x00 ∷ []) 3 0
-  pub k-02 : Refuses (0x02 ∷ []) 2 0
-  pub k-surrogate : Refuses (0x04 ∷ 0x00 ∷ 0xd8 ∷ 0x00 ∷ []) 4 0
-  pub k-last : Means (0x04 ∷ 0x10 ∷ 0xff ∷ 0xff ∷ []) (run white (0x10ffff ∷ []) ∷ [])
-  pub k-0c : Refuses (0x0c ∷ []) 1 0
   -- the first and the last surrogate, and the letters beside them
   pub below : Means (0x03 ∷ 0xd7 ∷ 0xff ∷ []) (run white (0xd7ff ∷ []) ∷ [])
   pub lowest : Refuses (0x03 ∷ 0xd8 ∷ 0x00 ∷ []) 4 0
@@ -66,7 +47,7 @@ pub record Cases : Type 0 where
   -- styles: a color sets alpha FF and keeps the marks
   pub styles :
       Means (0x06 ∷ 0x08 ∷ 0xff ∷ 0x00 ∷ 0x00 ∷ 0x07 ∷ 0x02 ∷ 0x41 ∷ 0x00 ∷ 0x00 ∷ 0x02 ∷ 0x42 ∷ 0x00 ∷ [])
-      (run (inside italic (red (inside bold white))) (0x41 ∷ []) ∷ run (inside bold white) (0x42 ∷ []) ∷ [])
+      (run (inside italicList (red (inside boldList white))) (0x41 ∷ []) ∷ run (inside boldList white) (0x42 ∷ []) ∷ [])
   -- a voice in red: its name, ": " and its list; the time mark and the empty group are no runs
   pub voice :
       Means (0x08 ∷ 0xff ∷ 0x00 ∷ 0x00 ∷ 0x09 ∷ 0x02 ∷ 0x41 ∷ 0x00 ∷ 0x0b ∷ 0x0a ∷ 0x00 ∷ 0x05 ∷ 0x00 ∷ 0x00 ∷ [])
@@ -80,7 +61,7 @@ pub record Cases : Type 0 where
   -- depth
   pub deepest : Means (nested 16 (0x02 ∷ 0x41 ∷ [])) (run white (0x41 ∷ []) ∷ [])
   pub deeper : Refuses (nested 17 (0x02 ∷ 0x41 ∷ [])) 5 16
-  -- order: 1 before 7, 7 before 5 and 2, 5 before 2, 2 before 4
+  -- order: 1 before 7, 7 before 2, 5 before 2, 2 before 4. 7 and 5 never meet: 5 stops the voice itself in the deepest list, and a name is no list.
   pub one-seven : Refuses (0x09 ∷ 0x0c ∷ []) 1 1
   pub seven-two : Refuses (0x09 ∷ 0x08 ∷ []) 7 1
   pub five-two : Refuses (nested 16 (0x08 ∷ [])) 5 16
@@ -92,21 +73,8 @@ pub cases : Cases
 unfolding tapeRuns tapeLetters read faultOf commandOf codePoint isLetter isOpener isScalar added mergeInto lettersOf sameStyle letterBytes
 cases =
     record {
-      a = refl;
-      b = refl;
-      c = refl;
-      d = refl;
-      e = refl;
-      f = refl;
-      g = refl;
-      g-without = refl;
-      g-letters = refl;
-      k-06 = refl;
-      k-00 = refl;
-      k-02 = refl;
-      k-surrogate = refl;
-      k-last = refl;
-      k-0c = refl;
+      parted = refl;
+      parted-letters = refl;
       below = refl;
       lowest = refl;
       highest = refl;

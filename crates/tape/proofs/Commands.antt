@@ -9,15 +9,15 @@ use lib.Dec.{leb, eqb}
 use lib.ListN.{length}
 use Rattle.tape.specs.declared.Style.{Style}
 use Rattle.tape.specs.Style.{Opener}
-use Rattle.tape.specs.Command.{codePoint, isLetter, isOpener, added, Command, text, opens, voice, timestamp, openerOf, commandOf}
+use Rattle.tape.specs.Command.{codePoint, isLetter, isOpener, added, Command, shows, opens, names, timeMark, openerOf, commandOf}
 use Rattle.tape.specs.Runs.{Run}
 use Rattle.tape.specs.Tape.{says}
 use Rattle.tape.specs.Marks.{Last, marked}
-use Rattle.tape.proofs.Styles.{split}
+use Rattle.tape.proofs.EqualStyles.{split}
 
 -- from 06 on a command is an opener, a voice or a time mark
 from-six : (c : ℕ) (rest : List ℕ) → 6 ≤ c
-    → commandOf c rest ≡ cond (eqb c 9) voice (cond (eqb c 11) timestamp (opens (openerOf c rest)))
+    → commandOf c rest ≡ cond (eqb c 9) names (cond (eqb c 11) timeMark (opens (openerOf c rest)))
 unfolding commandOf isLetter
 from-six c rest h =
     rw (
@@ -29,31 +29,31 @@ from-six c rest h =
     )
 
 -- which adds no letter
-silent : (v m : Bool) (o : Opener) (name : Bool) (s : Style) → says (cond v voice (cond m timestamp (opens o))) s name ≡ []
-silent true m o name s = refl
-silent false true o name s = refl
-silent false false o name s = refl
+silent : (v m : Bool) (o : Opener) (naming : Bool) (s : Style) → says (cond v names (cond m timeMark (opens o))) s naming ≡ []
+silent true m o naming s = refl
+silent false true o naming s = refl
+silent false false o naming s = refl
 
-from-six-adds : (c : ℕ) (name : Bool) → 6 ≤ c → 0 ≡ added name c
+from-six-adds : (c : ℕ) (naming : Bool) → 6 ≤ c → 0 ≡ added naming c
 unfolding added
-from-six-adds c name h = rw (le-leb 2 c (omega arith), lt-leb c 5 (omega arith), ne-eqb c 0 (λ e. omega arith))
+from-six-adds c naming h = rw (le-leb 2 c (omega arith), lt-leb c 5 (omega arith), ne-eqb c 0 (λ e. omega arith))
 
 -- a command adds as many letters as its runs have
-pub says-added : (c : ℕ) (rest : List ℕ) (name : Bool) (l : Last) (s : Style)
-    → length (marked l (says (commandOf c rest) s name)) ≡ added name c
+pub says-added : (c : ℕ) (rest : List ℕ) (naming : Bool) (l : Last) (s : Style)
+    → length (marked l (says (commandOf c rest) s naming)) ≡ added naming c
 unfolding commandOf added isLetter
 says-added zero rest true l s = refl
 says-added zero rest false l s = refl
-says-added (suc zero) rest name l s = refl
-says-added (suc (suc zero)) rest name l s = refl
-says-added (suc (suc (suc zero))) rest name l s = refl
-says-added (suc (suc (suc (suc zero)))) rest name l s = refl
-says-added (suc (suc (suc (suc (suc zero))))) rest name l s = refl
-says-added (suc (suc (suc (suc (suc (suc k)))))) rest name l s =
+says-added (suc zero) rest naming l s = refl
+says-added (suc (suc zero)) rest naming l s = refl
+says-added (suc (suc (suc zero))) rest naming l s = refl
+says-added (suc (suc (suc (suc zero)))) rest naming l s = refl
+says-added (suc (suc (suc (suc (suc zero))))) rest naming l s = refl
+says-added (suc (suc (suc (suc (suc (suc k)))))) rest naming l s =
     let c : ℕ = suc (suc (suc (suc (suc (suc k))))) in
-    ap (λ (x : Command). length (marked l (says x s name))) (from-six c rest (omega arith))
-    ∙ ap (λ (x : List Run). length (marked l x)) (silent (eqb c 9) (eqb c 11) (openerOf c rest) name s)
-    ∙ from-six-adds c name (omega arith)
+    ap (λ (x : Command). length (marked l (says x s naming))) (from-six c rest (omega arith))
+    ∙ ap (λ (x : List Run). length (marked l x)) (silent (eqb c 9) (eqb c 11) (openerOf c rest) naming s)
+    ∙ from-six-adds c naming (omega arith)
 
 -- ---- what is no opener
 
@@ -80,22 +80,22 @@ pub letter-range : (c : ℕ) → isLetter c ≡ true → (2 ≤ c) × (c ≤ 4)
 unfolding isLetter
 letter-range c e = let p = split (leb 2 c) (leb c 4) e in (leb-true 2 c (p .0), leb-true c 4 (p .1))
 
-pub letter-command : (c : ℕ) (rest : List ℕ) → isLetter c ≡ true → commandOf c rest ≡ text (codePoint c rest ∷ [])
+pub letter-command : (c : ℕ) (rest : List ℕ) → isLetter c ≡ true → commandOf c rest ≡ shows (codePoint c rest ∷ [])
 unfolding commandOf
 letter-command c rest e =
     let r = letter-range c e in
     rw (ne-eqb c 0 (λ z. omega arith), ne-eqb c 1 (λ z. omega arith), e)
 
-pub letter-adds : (c : ℕ) (name : Bool) → isLetter c ≡ true → added name c ≡ 1
+pub letter-adds : (c : ℕ) (naming : Bool) → isLetter c ≡ true → added naming c ≡ 1
 unfolding added isLetter
-letter-adds c name e =
+letter-adds c naming e =
     let r = letter-range c e in
     rw (le-leb 2 c (r .0), le-leb c 5 (omega arith))
 
 -- outside of a name, and behind its 00, no command adds two
-pub added-either : (c : ℕ) (name : Bool) → 0 < c → added name c ≡ added false c
+pub added-either : (c : ℕ) (naming : Bool) → 0 < c → added naming c ≡ added false c
 unfolding added
-added-either c name h = rw (ne-eqb c 0 (λ e. omega arith))
+added-either c naming h = rw (ne-eqb c 0 (λ e. omega arith))
 
 pub letter-flat : (c : ℕ) → isLetter c ≡ true → isOpener c ≡ false
 unfolding isOpener isLetter

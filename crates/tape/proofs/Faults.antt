@@ -8,8 +8,8 @@ use borrow.Author.Tests.{leb-true, le-leb, lt-leb, le-ltb, ltb-false, eq-eqb, ne
 use lib.Dec.{T, lit≤, leb, leb→le, ltb, ltb→lt, eqb}
 use lib.Ieee.Fits.{and-l, and-r}
 use lib.ListN.{length}
-use Rattle.tape.proofs.Styles.{split}
-use Rattle.tape.specs.Command.{deepest, mostLetters, width, codePoint, isLetter, isOpener, isScalar, added, faultTests, firstOf, faultOf}
+use Rattle.tape.proofs.EqualStyles.{split}
+use Rattle.tape.specs.Command.{deepest, mostLetters, operandWidth, codePoint, isLetter, isOpener, isScalar, added, faultTests, firstOf, faultOf}
 
 -- the test of a number in a table
 abbrev testOf : ℕ → List (ℕ × Bool) → Bool
@@ -50,37 +50,37 @@ none-holds (t ∷ ts) h e k =
     (none-holds ts (and-r (ltb 0 (t .0) && leb (t .0) 7) (numbered ts) h) (z .1) k)
 
 -- no test of the table holds
-pub record Clean (name : Bool) (depth n c : ℕ) (rest : List ℕ) : Type 0 where
+pub record Clean (naming : Bool) (depth n c : ℕ) (rest : List ℕ) : Type 0 where
   pub known : c < 12
-  pub plain : (name && not (eqb c 0 || isLetter c)) ≡ false
+  pub plain : (naming && not (eqb c 0 || isLetter c)) ≡ false
   pub shallow : (isOpener c && eqb depth deepest) ≡ false
-  pub whole : width c ≤ length rest
+  pub whole : operandWidth c ≤ length rest
   pub scalar : (isLetter c && not (isScalar (codePoint c rest))) ≡ false
-  pub few : n + added name c ≤ mostLetters
-  pub nested : (eqb c 0 && (not name && eqb depth 0)) ≡ false
+  pub few : n + added naming c ≤ mostLetters
+  pub nested : (eqb c 0 && (not naming && eqb depth 0)) ≡ false
 
-module _ (name : Bool) (depth n c : ℕ) (rest : List ℕ) where
-  pub fault-most : faultOf name depth n c rest ≤ 7
+module _ (naming : Bool) (depth n c : ℕ) (rest : List ℕ) where
+  pub fault-most : faultOf naming depth n c rest ≤ 7
   unfolding faultOf
-  fault-most = first-most (faultTests name depth n c rest) tt
+  fault-most = first-most (faultTests naming depth n c rest) tt
 
-  pub clean : faultOf name depth n c rest ≡ 0 → Clean name depth n c rest
+  pub clean : faultOf naming depth n c rest ≡ 0 → Clean naming depth n c rest
   unfolding faultOf
   clean e =
-      let no : (k : ℕ) → testOf k (faultTests name depth n c rest) ≡ false = none-holds (faultTests name depth n c rest) tt e in
+      let no : (k : ℕ) → testOf k (faultTests naming depth n c rest) ≡ false = none-holds (faultTests naming depth n c rest) tt e in
       let known = ltb-false 11 c (no 1) in
       record {
         known = omega arith;
         plain = no 7;
         shallow = no 5;
-        whole = ltb-false (length rest) (width c) (no 2);
+        whole = ltb-false (length rest) (operandWidth c) (no 2);
         scalar = no 4;
-        few = ltb-false mostLetters (n + added name c) (no 6);
+        few = ltb-false mostLetters (n + added naming c) (no 6);
         nested = no 3;
       }
 
   -- and the other way round
-  pub no-fault : Clean name depth n c rest → faultOf name depth n c rest ≡ 0
+  pub no-fault : Clean naming depth n c rest → faultOf naming depth n c rest ≡ 0
   unfolding faultOf
   no-fault ok =
       let known : c ≤ 11 = omega arith in
@@ -88,22 +88,22 @@ module _ (name : Bool) (depth n c : ℕ) (rest : List ℕ) where
         le-ltb 11 c known,
         ok .plain,
         ok .shallow,
-        le-ltb (length rest) (width c) (ok .whole),
+        le-ltb (length rest) (operandWidth c) (ok .whole),
         ok .scalar,
-        le-ltb mostLetters (n + added name c) (ok .few),
+        le-ltb mostLetters (n + added naming c) (ok .few),
         ok .nested,
       )
 
 -- a list that a 00 ends is not the outer one
-pub not-outer : {name : Bool} {depth n c : ℕ} {rest : List ℕ} → Clean name depth n c rest → c ≡ 0 → name ≡ false → depth ≡ 0 → ⊥
+pub not-outer : {naming : Bool} {depth n c : ℕ} {rest : List ℕ} → Clean naming depth n c rest → c ≡ 0 → naming ≡ false → depth ≡ 0 → ⊥
 not-outer {depth = depth} {c = c} ok e f d = eqb-false depth 0 (rw (eq-eqb c 0 e, f) at (ok .nested)) d
 
 -- a list that opens is not too deep
-pub not-deepest : {name : Bool} {depth n c : ℕ} {rest : List ℕ} → Clean name depth n c rest → isOpener c ≡ true → depth ≡ deepest → ⊥
+pub not-deepest : {naming : Bool} {depth n c : ℕ} {rest : List ℕ} → Clean naming depth n c rest → isOpener c ≡ true → depth ≡ deepest → ⊥
 not-deepest {depth = depth} ok o d = eqb-false depth deepest (rw o at (ok .shallow)) d
 
 -- a name holds no opener
-pub opens-in-list : (name : Bool) {depth n c : ℕ} {rest : List ℕ} → Clean name depth n c rest → isOpener c ≡ true → name ≡ false
+pub opens-in-list : (naming : Bool) {depth n c : ℕ} {rest : List ℕ} → Clean naming depth n c rest → isOpener c ≡ true → naming ≡ false
 unfolding isOpener isLetter
 opens-in-list true {c = c} ok o =
     let six = leb-true 6 c (split (leb 6 c) (leb c 10) o .0) in

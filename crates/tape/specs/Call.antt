@@ -1,6 +1,6 @@
 -- WHAT A CALL ANSWERS AND LEAVES: document 01, "Who is stopped, and by what". Definitions only.
--- What a call comes to is an outcome, and all else that can be seen of the call follows from it. So the contract of every call is one claim,
--- `Came`: the call comes to this outcome, and here is what the outcome leaves.
+-- What a call comes to is an outcome, and all else that can be seen of the call follows from it. So the contract of
+-- every call is one claim, `Came`: the call comes to this outcome, and here is what the outcome leaves.
 use mathlib.Core.Path.{_≡_}
 use mathlib.Core.Bool.{Bool, true, _&&_, _||_}
 use mathlib.Core.List.{List}
@@ -23,7 +23,8 @@ changed f x (refused number place) = x
 unfoldable pub keepsWorkspace : ℕ → Bool
 keepsWorkspace number = leb 8 number && leb number 11 || eqb number 13
 
--- the workspace before and after a call: accepted, it is as `Holds` says; after these refusals it is as it was; else its contents are free
+-- the workspace before and after a call: accepted, it is as `Holds` says; after these refusals it is as it was; else
+-- its contents are free
 abbrev pub Workspace : {A : Type 0} → (A → Type 0) → List ℕ → List ℕ → Outcome A → Type 0
 Workspace Holds ws ws' (accepted a) = Holds a
 Workspace Holds ws ws' (refused number place) = keepsWorkspace number ≡ true → ws' ≡ ws
@@ -36,17 +37,17 @@ nothing = tt
 abbrev pub free : {A : Type 0} → A → Type 0
 free a = Unit
 
--- A call that comes to the outcome o. It answers `count` of what it accepts, or its refusal; what it may change, which was x, is then x'; and the
--- workspace, which was ws, is then ws'.
+-- A call that comes to the outcome o. It answers `tally` of what it accepts, or its refusal; what it may change, which
+-- was x, is then x'; and the workspace, which was ws, is then ws'.
 pub record Came
     {A X : Type 0}
     (o : Outcome A)
-    (count : A → ℕ)
+    (tally : A → ℕ)
     (f : A → X)
     (Holds : A → Type 0)
     (x x' : X)
     (ws ws' : List ℕ)
     (answer : Answer) : Type 0 where
-  pub answers : answer ≡ answerOf (onAccepted count o)
+  pub answers : answer ≡ answerOf (onAccepted tally o)
   pub changes : x' ≡ changed f x o
   pub leaves : Workspace Holds ws ws' o

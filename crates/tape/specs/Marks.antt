@@ -1,5 +1,5 @@
--- Promises: the letters of runs, one run after the other, as the reader makes them. That these are the letters of the merged runs is
--- `marked-merged` of proofs/Marked.antt. No reader of the deposit needs this file.
+-- Promises: the letters of runs, one run after the other, as the reader makes them. That these are the letters of the
+-- merged runs is `marked-merged` of proofs/MarkedRuns.antt. No reader of the deposit needs this file.
 use mathlib.Core.Bool.{Bool, true, false, not, _&&_, _||_}
 use mathlib.Core.List.{List, [], _∷_, _++_}
 use Prim.Native.Nat.{ℕ}
@@ -25,7 +25,7 @@ empty (v ∷ vs) = false
 
 -- the last run after one more
 abbrev pub lastWith : Last → Run → Last
-lastWith l r = last (r .style) (empty (r .text) && starts l (r .style))
+lastWith l r = last (r .style) (empty (r .codes) && starts l (r .style))
 
 abbrev pub lastAfter : Last → List Run → Last
 lastAfter l [] = l
@@ -33,4 +33,4 @@ lastAfter l (r ∷ rs) = lastAfter (lastWith l r) rs
 
 abbrev pub marked : Last → List Run → List Letter
 marked l [] = []
-marked l (r ∷ rs) = lettersIn (r .style) (starts l (r .style)) (r .text) ++ marked (lastWith l r) rs
+marked l (r ∷ rs) = lettersIn (r .style) (starts l (r .style)) (r .codes) ++ marked (lastWith l r) rs

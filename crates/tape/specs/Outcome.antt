@@ -16,14 +16,14 @@ module _ {A : Type 0} where
   -- a refusal where its number is not 0, else what comes after it
   abbrev pub unless : ℕ → ℕ → Outcome A → Outcome A
   unless zero place o = o
-  unless (suc k) place o = refused (suc k) place
+  unless (suc n) place o = refused (suc n) place
 
   -- f of what is accepted; a refusal stays
   abbrev pub onAccepted : {B : Type 0} → (A → B) → Outcome A → Outcome B
   onAccepted f (accepted a) = accepted (f a)
   onAccepted f (refused number place) = refused number place
 
-  -- what comes next of what is accepted; a refusal stays
+  -- what f comes to, of what is accepted; a refusal stays
   abbrev pub andThen : {B : Type 0} → (A → Outcome B) → Outcome A → Outcome B
-  andThen next (accepted a) = next a
-  andThen next (refused number place) = refused number place
+  andThen f (accepted a) = f a
+  andThen f (refused number place) = refused number place

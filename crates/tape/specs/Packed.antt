@@ -17,5 +17,5 @@ unpacked r = cond (ltb r (2 ^ 32)) (Answer.Accepted r) (Answer.Refused (r / 2 ^ 
 -- a function for C answers r: it does what the call does, and r is the call's answer as one number
 pub record Numbered (Does : Answer → Type 0) (r : ℕ) : Type 0 where
   pub answer : Answer
-  pub calls : Does answer
+  pub does : Does answer
   pub packs : r ≡ packed answer

@@ -10,7 +10,7 @@ use Rattle.tape.specs.declared.State.{State}
 use Rattle.tape.specs.declared.Step.{Step}
 use Rattle.tape.specs.declared.Step.the-variants.{Done, Refused}
 use Rattle.tape.specs.Outcome.{Outcome, accepted, refused}
-use Rattle.tape.specs.Command.{mostLetters, width, codePoint, isLetter, isOpener, isScalar, added, faultOf, Command, ends, commandOf}
+use Rattle.tape.specs.Command.{mostLetters, operandWidth, codePoint, isLetter, isOpener, isScalar, added, faultOf, Command, ends, commandOf}
 use Rattle.tape.specs.Runs.{Run}
 use Rattle.tape.specs.Tape.{Frame, frame, says, next, after, read}
 use Rattle.tape.specs.Marks.{Last, last, lastAfter, marked}
@@ -42,6 +42,10 @@ pub record Wrote (ws ws' : List ℕ) (st st' : State) (rs : List Run) (at : ℕ)
 
 -- ---- what is asked
 
+-- the most letters that one command adds: the colon and the space behind a name
+abbrev pub mostAdded : ℕ
+mostAdded = 2
+
 -- the command byte at a place, and the bytes behind it
 abbrev pub byteAt : List ℕ → ℕ → ℕ
 byteAt tape at = getD tape at 0
@@ -65,7 +69,7 @@ commandAt tape st = commandOf (byteOf tape st) (restOf tape st)
 
 -- the place after the command and its operands
 abbrev pub placeAfter : List ℕ → State → ℕ
-placeAfter tape st = st .at + 1 + width (byteOf tape st)
+placeAfter tape st = st .at + 1 + operandWidth (byteOf tape st)
 
 -- a state that can be read on from
 pub record Ready (tape ws : List ℕ) (st : State) : Type 0 where
@@ -74,9 +78,9 @@ pub record Ready (tape ws : List ℕ) (st : State) : Type 0 where
   pub space : 8 * mostLetters ≤ length ws
 
 -- one with a command without a fault, in a name or not, in a list of this depth
-pub record Sound (tape ws : List ℕ) (st : State) (name : Bool) (depth : ℕ) : Type 0 where
+pub record Sound (tape ws : List ℕ) (st : State) (naming : Bool) (depth : ℕ) : Type 0 where
   pub inside : st .at < length tape
-  pub clear : faultOf name depth (st .count) (byteOf tape st) (restOf tape st) ≡ 0
+  pub clear : faultOf naming depth (st .count) (byteOf tape st) (restOf tape st) ≡ 0
   pub space : 8 * mostLetters ≤ length ws
 
 -- one with a whole command that neither opens nor ends anything, and room for its letter
@@ -91,7 +95,7 @@ pub record Leaf (tape ws : List ℕ) (st : State) : Type 0 where
 -- whether the command at a place is a letter of one byte, whole, and after so few letters that it has room
 unfoldable pub shortLetter : List ℕ → ℕ → ℕ → Bool
 shortLetter tape at count =
-    eqb (byteAt tape at) 0x02 && (leb (width 0x02) (length (restAt tape at)) && ltb count mostLetters)
+    eqb (byteAt tape at) 0x02 && (leb (operandWidth 0x02) (length (restAt tape at)) && ltb count mostLetters)
 
 -- ---- what is told
 
@@ -101,10 +105,10 @@ from tape f at n = read 0 f at n (drop at tape)
 
 -- The frames that reading starts and ends in, with any styles around: in a list or a name, and past its 00.
 abbrev pub within : Style → Bool → List Style → Frame
-within s name around = frame s around name
+within s naming around = frame s around naming
 
 abbrev pub past : Style → Bool → List Style → Frame
-past s name around = next ends s around name
+past s naming around = next ends s around naming
 
 -- from a to b the reader stored the runs that the tape means there; X is the frame at a, and Y at b
 pub record Went (tape ws ws' : List ℕ) (depth : ℕ) (X Y : List Style → Frame) (a b : State) : Type 0 where
@@ -132,12 +136,12 @@ Onward a (Refused number place) = Unit
 
 -- the outer list goes to the tape's end
 abbrev pub ToTheEnd : List ℕ → Bool → ℕ → Step → Type 0
-ToTheEnd tape name depth (Done b) = name ≡ false → depth ≡ 0 → length tape ≤ b .at
-ToTheEnd tape name depth (Refused number place) = Unit
+ToTheEnd tape naming depth (Done b) = naming ≡ false → depth ≡ 0 → length tape ≤ b .at
+ToTheEnd tape naming depth (Refused number place) = Unit
 
 -- letters of the style s were read, in whatever list or name
 abbrev pub WentOn : List ℕ → List ℕ → List ℕ → Style → State → State → Type 0
-WentOn tape ws ws' s a b = (name : Bool) (depth : ℕ) → Went tape ws ws' depth (within s name) (within s name) a b
+WentOn tape ws ws' s a b = (naming : Bool) (depth : ℕ) → Went tape ws ws' depth (within s naming) (within s naming) a b
 
 -- and all the short ones that follow
 pub record LettersRead (tape ws ws' : List ℕ) (a : State) (s : Style) (b : State) : Type 0 where
@@ -149,7 +153,7 @@ abbrev pub LeafRead : List ℕ → List ℕ → List ℕ → State → Style →
 LeafRead tape ws ws' a s b = Wrote ws ws' a b (says (commandAt tape a) s false) (placeAfter tape a)
 
 abbrev pub SegmentRead : List ℕ → List ℕ → List ℕ → Bool → ℕ → State → Style → Step → Type 0
-SegmentRead tape ws ws' name depth a s r = Reads tape ws ws' depth (within s name) (within s name) a r × Onward a r
+SegmentRead tape ws ws' naming depth a s r = Reads tape ws ws' depth (within s naming) (within s naming) a r × Onward a r
 
 abbrev pub ListRead : List ℕ → List ℕ → List ℕ → Bool → ℕ → State → Style → Step → Type 0
-ListRead tape ws ws' name depth a s r = Reads tape ws ws' depth (within s name) (past s name) a r × ToTheEnd tape name depth r
+ListRead tape ws ws' naming depth a s r = Reads tape ws ws' depth (within s naming) (past s naming) a r × ToTheEnd tape naming depth r

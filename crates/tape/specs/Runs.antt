@@ -5,19 +5,19 @@ use Prim.Native.Nat.{ℕ}
 use Rattle.tape.specs.declared.Style.{Style}
 use Rattle.tape.specs.Style.{sameStyle}
 
--- a run: a text, which may have no letter, in one style
+-- a run: letters in one style, by their code points; it may have none
 pub record Run : Type 0 where
   pub style : Style
-  pub text : List ℕ
+  pub codes : List ℕ
 
 abbrev pub run : Style → List ℕ → Run
-run s vs = record { style = s; text = vs }
+run s vs = record { style = s; codes = vs }
 
 -- the run q and then rs: a run joins the one before it where their styles are equal
 unfoldable pub mergeInto : Run → List Run → List Run
 mergeInto q [] = q ∷ []
 mergeInto q (r ∷ rs) =
-    cond (sameStyle (q .style) (r .style)) (mergeInto (run (q .style) (q .text ++ r .text)) rs) (q ∷ mergeInto r rs)
+    cond (sameStyle (q .style) (r .style)) (mergeInto (run (q .style) (q .codes ++ r .codes)) rs) (q ∷ mergeInto r rs)
 
 -- adjacent runs of equal style merge
 abbrev pub merge : List Run → List Run
@@ -30,13 +30,13 @@ pub record Letter : Type 0 where
   pub style : Style
   pub start : Bool
 
--- the letters of a text, the first with the mark `start`
+-- the letters of code points in one style, the first with the mark `start`
 abbrev pub lettersIn : Style → Bool → List ℕ → List Letter
 lettersIn s start [] = []
 lettersIn s start (v ∷ vs) = record { code = v; style = s; start = start } ∷ lettersIn s false vs
 
--- The letters of runs, the first of each with a mark. So a letter starts a run where none is before it, or where its own style, or that of an
--- empty text between the two, is not that of the letter before it.
+-- The letters of runs, the first of each with a mark. So a letter starts a run where it is the first of all, where its
+-- style is not that of the letter before it, or where an empty text of another style stands between the two.
 unfoldable pub lettersOf : List Run → List Letter
 lettersOf [] = []
-lettersOf (r ∷ rs) = lettersIn (r .style) true (r .text) ++ lettersOf rs
+lettersOf (r ∷ rs) = lettersIn (r .style) true (r .codes) ++ lettersOf rs

@@ -7,7 +7,7 @@ use Prim.Native.Nat.{ℕ, suc, _+_, _/_, _%_, _≤_, _<_, max}
 use lib.Dec.{ltb}
 use lib.ListN.{length}
 use Rattle.tape.specs.declared.Style.{Style}
-use Rattle.tape.specs.Style.{Opener, bold, italic, color, plain, inside}
+use Rattle.tape.specs.Style.{Opener, boldList, italicList, colorList, plainList, inside}
 use Rattle.tape.specs.Command.{deepest, mostLetters, isScalar}
 use Rattle.tape.specs.Runs.{Run, run}
 
@@ -60,10 +60,10 @@ abbrev pub nameBytes : List ℕ → List ℕ
 nameBytes name = lettersBytes name ++ (0x00 ∷ [])
 
 abbrev pub openerBytes : Opener → List ℕ
-openerBytes bold = 0x06 ∷ []
-openerBytes italic = 0x07 ∷ []
-openerBytes (color r g b) = 0x08 ∷ r ∷ g ∷ b ∷ []
-openerBytes plain = 0x0a ∷ []
+openerBytes boldList = 0x06 ∷ []
+openerBytes italicList = 0x07 ∷ []
+openerBytes (colorList red green blue) = 0x08 ∷ red ∷ green ∷ blue ∷ []
+openerBytes plainList = 0x0a ∷ []
 
 abbrev mutual
   pub written : Segment → List ℕ
@@ -81,29 +81,29 @@ abbrev mutual
 
 -- how many letters they have: a break is one, and a voice adds two
 abbrev mutual
-  pub letters : Segment → ℕ
-  letters (text vs) = length vs
-  letters lineBreak = 1
-  letters timestamp = 0
-  letters (group o gs) = lettersList gs
-  letters (voice name gs) = length name + (2 + lettersList gs)
+  pub letterCount : Segment → ℕ
+  letterCount (text vs) = length vs
+  letterCount lineBreak = 1
+  letterCount timestamp = 0
+  letterCount (group o gs) = letterCountList gs
+  letterCount (voice name gs) = length name + (2 + letterCountList gs)
 
-  pub lettersList : Segments → ℕ
-  lettersList none = 0
-  lettersList (g then gs) = letters g + lettersList gs
+  pub letterCountList : Segments → ℕ
+  letterCountList none = 0
+  letterCountList (g then gs) = letterCount g + letterCountList gs
 
 -- how deep their lists lie
 abbrev mutual
-  pub depth : Segment → ℕ
-  depth (text vs) = 0
-  depth lineBreak = 0
-  depth timestamp = 0
-  depth (group o gs) = suc (depthList gs)
-  depth (voice name gs) = suc (depthList gs)
+  pub nesting : Segment → ℕ
+  nesting (text vs) = 0
+  nesting lineBreak = 0
+  nesting timestamp = 0
+  nesting (group o gs) = suc (nestingList gs)
+  nesting (voice name gs) = suc (nestingList gs)
 
-  pub depthList : Segments → ℕ
-  depthList none = 0
-  depthList (g then gs) = max (depth g) (depthList gs)
+  pub nestingList : Segments → ℕ
+  nestingList none = 0
+  nestingList (g then gs) = max (nesting g) (nestingList gs)
 
 -- whether they can be written: every letter is a Unicode scalar value, and every color byte a byte
 abbrev pub areScalars : List ℕ → Bool
@@ -111,10 +111,10 @@ areScalars [] = true
 areScalars (v ∷ vs) = isScalar v && areScalars vs
 
 abbrev pub isWritable : Opener → Bool
-isWritable bold = true
-isWritable italic = true
-isWritable (color r g b) = ltb r 256 && (ltb g 256 && ltb b 256)
-isWritable plain = true
+isWritable boldList = true
+isWritable italicList = true
+isWritable (colorList red green blue) = ltb red 256 && (ltb green 256 && ltb blue 256)
+isWritable plainList = true
 
 abbrev mutual
   pub writable : Segment → Bool
@@ -130,11 +130,11 @@ abbrev mutual
 
 -- within the limits
 pub record Within (gs : Segments) : Type 0 where
-  pub deep : depthList gs ≤ deepest
-  pub few : lettersList gs ≤ mostLetters
+  pub deep : nestingList gs ≤ deepest
+  pub few : letterCountList gs ≤ mostLetters
   pub can : writableList gs ≡ true
 
 -- a list of bytes
-abbrev pub Bytes : List ℕ → Type 0
-Bytes [] = Unit
-Bytes (b ∷ bs) = (b < 256) × Bytes bs
+abbrev pub AllBytes : List ℕ → Type 0
+AllBytes [] = Unit
+AllBytes (b ∷ bs) = (b < 256) × AllBytes bs

@@ -14,19 +14,20 @@ defaultWith k =
 
 -- equal style: both marks and all four bytes
 unfoldable pub sameStyle : Style → Style → Bool
-sameStyle a b =
-    Bool·beq (a .bold) (b .bold)
-    && (Bool·beq (a .italic) (b .italic)
-    && (eqb (a .red) (b .red) && (eqb (a .green) (b .green) && (eqb (a .blue) (b .blue) && eqb (a .alpha) (b .alpha)))))
+sameStyle s t =
+    Bool·beq (s .bold) (t .bold)
+    && (Bool·beq (s .italic) (t .italic)
+    && (eqb (s .red) (t .red) && (eqb (s .green) (t .green) && (eqb (s .blue) (t .blue) && eqb (s .alpha) (t .alpha)))))
 
 -- what opens a list: a mark, a color's red, green and blue, or a plain group
 pub data Opener : Type 0 where
-  bold italic plain : Opener
-  color : ℕ → ℕ → ℕ → Opener
+  boldList italicList plainList : Opener
+  colorList : ℕ → ℕ → ℕ → Opener
 
--- the style inside a list, from the style around it: bold and italic set a mark, color sets the three bytes and alpha FF
+-- the style inside a list, from the style around it: bold and italic set a mark, color sets the three bytes and alpha
+-- FF
 abbrev pub inside : Opener → Style → Style
-inside bold s = record { red = s .red; green = s .green; blue = s .blue; alpha = s .alpha; bold = true; italic = s .italic }
-inside italic s = record { red = s .red; green = s .green; blue = s .blue; alpha = s .alpha; bold = s .bold; italic = true }
-inside (color r g b) s = record { red = r; green = g; blue = b; alpha = 0xff; bold = s .bold; italic = s .italic }
-inside plain s = s
+inside boldList s = record { red = s .red; green = s .green; blue = s .blue; alpha = s .alpha; bold = true; italic = s .italic }
+inside italicList s = record { red = s .red; green = s .green; blue = s .blue; alpha = s .alpha; bold = s .bold; italic = true }
+inside (colorList red green blue) s = record { red = red; green = green; blue = blue; alpha = 0xff; bold = s .bold; italic = s .italic }
+inside plainList s = s

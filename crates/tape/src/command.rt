@@ -5,8 +5,8 @@ ghost use Prim.Native.Nat.{_+_, _≤_, _<_};
 ghost use lib.ListN.{length};
 ghost use lib.Dec.{eqb};
 ghost use Rattle.tape.specs.Style.{inside};
-ghost use Rattle.tape.specs.Command.{deepest, mostLetters, width, codePoint, isLetter, isOpener, isScalar, added, faultOf, openerOf};
-ghost use Rattle.tape.specs.Reading.{byteAt, restAt, noScalar, shortLetter};
+ghost use Rattle.tape.specs.Command.{deepest, mostLetters, operandWidth, codePoint, isLetter, isOpener, isScalar, added, faultOf, openerOf};
+ghost use Rattle.tape.specs.Reading.{mostAdded, byteAt, restAt, noScalar, shortLetter};
 use crate::Style;
 use crate::wide;
 
@@ -19,7 +19,7 @@ const WIDTHS: [u8; 12] = [0, 0, 1, 2, 3, 0, 0, 0, 3, 0, 0, 0];
 
 pub fn operand_width(c: u8) -> usize
     requires { ⌜ c < 12 ⌝ }
-    ensures { λ r. ⌜ (r ≡ width c) × (r ≤ 3) ⌝ }
+    ensures { λ r. ⌜ (r ≡ operandWidth c) × (r ≤ 3) ⌝ }
 {
     WIDTHS[c as usize] as usize
 }
@@ -48,7 +48,7 @@ fn is_scalar(v: u32) -> bool
 // The code point of the letter command at a place, one to three bytes. The cases are the table's, and
 // proved from it: reading it here too would cost a twentieth of the time of longer letters.
 pub fn code_point(tape: &[u8], at: usize) -> u32
-    requires { ⌜ (isLetter (byteAt (now tape) at) ≡ true) × (at + width (byteAt (now tape) at) < length (now tape)) ⌝ }
+    requires { ⌜ (isLetter (byteAt (now tape) at) ≡ true) × (at + operandWidth (byteAt (now tape) at) < length (now tape)) ⌝ }
     ensures { λ r. ⌜ (r ≡ codePoint (byteAt (now (tape .entry)) at) (restAt (now (tape .entry)) at)) × (r < 16777216) ⌝ }
 {
     let c = tape[at];
@@ -64,23 +64,23 @@ pub fn code_point(tape: &[u8], at: usize) -> u32
 }
 
 // How many letters a command adds.
-fn letters_added(name: bool, c: u8) -> usize
-    ensures { λ r. ⌜ (r ≡ added name c) × (r ≤ 2) ⌝ }
+fn letters_added(naming: bool, c: u8) -> usize
+    ensures { λ r. ⌜ (r ≡ added naming c) × (r ≤ mostAdded) ⌝ }
 {
     if 0x02 <= c {
         return if c <= 0x05 { 1 } else { 0 };
     }
     if c == 0x00 {
-        return if name { 2 } else { 0 };
+        return if naming { 2 } else { 0 };
     }
     0
 }
 
 // A command that no name holds.
-fn is_strange(name: bool, c: u8) -> bool
-    ensures { λ r. ⌜ r ≡ (name && not (eqb c 0 || isLetter c)) ⌝ }
+fn is_strange(naming: bool, c: u8) -> bool
+    ensures { λ r. ⌜ r ≡ (naming && not (eqb c 0 || isLetter c)) ⌝ }
 {
-    if name {
+    if naming {
         if c == 0x00 {
             return false;
         }
@@ -101,7 +101,7 @@ fn is_too_deep(c: u8, depth: usize) -> bool
 
 // A letter command with no Unicode scalar value.
 fn is_no_scalar(tape: &[u8], at: usize) -> bool
-    requires { ⌜ at + width (byteAt (now tape) at) < length (now tape) ⌝ }
+    requires { ⌜ at + operandWidth (byteAt (now tape) at) < length (now tape) ⌝ }
     ensures { λ r. ⌜ r ≡ noScalar (now (tape .entry)) at ⌝ }
 {
     if is_letter(tape[at]) {
@@ -111,32 +111,32 @@ fn is_no_scalar(tape: &[u8], at: usize) -> bool
 }
 
 // In the outer list, and in no name.
-pub fn is_outer(name: bool, depth: usize) -> bool
-    ensures { λ r. ⌜ r ≡ (not name && eqb depth 0) ⌝ }
+pub fn is_outer(naming: bool, depth: usize) -> bool
+    ensures { λ r. ⌜ r ≡ (not naming && eqb depth 0) ⌝ }
 {
-    if name { false } else { depth == 0 }
+    if naming { false } else { depth == 0 }
 }
 
 // An end that no list and no name has.
-fn is_stray_end(c: u8, name: bool, depth: usize) -> bool
-    ensures { λ r. ⌜ r ≡ (eqb c 0 && (not name && eqb depth 0)) ⌝ }
+fn is_stray_end(c: u8, naming: bool, depth: usize) -> bool
+    ensures { λ r. ⌜ r ≡ (eqb c 0 && (not naming && eqb depth 0)) ⌝ }
 {
     if c == 0x00 {
-        return is_outer(name, depth);
+        return is_outer(naming, depth);
     }
     false
 }
 
 // The number of the first fault of the command at a place, or 0.
-pub fn fault(tape: &[u8], at: usize, count: usize, name: bool, depth: usize) -> u8
+pub fn fault(tape: &[u8], at: usize, count: usize, naming: bool, depth: usize) -> u8
     requires { ⌜ (at < length (now tape)) × (count ≤ mostLetters) ⌝ }
-    ensures { λ r. ⌜ r ≡ faultOf name depth count (byteAt (now (tape .entry)) at) (restAt (now (tape .entry)) at) ⌝ }
+    ensures { λ r. ⌜ r ≡ faultOf naming depth count (byteAt (now (tape .entry)) at) (restAt (now (tape .entry)) at) ⌝ }
 {
     let c = tape[at];
     if 0x0b < c {
         return 1;
     }
-    if is_strange(name, c) {
+    if is_strange(naming, c) {
         return 7;
     }
     if is_too_deep(c, depth) {
@@ -148,10 +148,10 @@ pub fn fault(tape: &[u8], at: usize, count: usize, name: bool, depth: usize) -> 
     if is_no_scalar(tape, at) {
         return 4;
     }
-    if MOST_LETTERS < count + letters_added(name, c) {
+    if MOST_LETTERS < count + letters_added(naming, c) {
         return 6;
     }
-    if is_stray_end(c, name, depth) {
+    if is_stray_end(c, naming, depth) {
         return 3;
     }
     0
@@ -173,7 +173,7 @@ pub fn is_short_letter(tape: &[u8], at: usize, count: usize) -> bool
 
 // The style inside a list that the command at a place opens.
 pub fn style_inside(tape: &[u8], at: usize, s: Style) -> Style
-    requires { ⌜ at + width (byteAt (now tape) at) < length (now tape) ⌝ }
+    requires { ⌜ at + operandWidth (byteAt (now tape) at) < length (now tape) ⌝ }
     ensures { λ r. ⌜ r ≡ inside (openerOf (byteAt (now (tape .entry)) at) (restAt (now (tape .entry)) at)) s ⌝ }
 {
     let c = tape[at];

@@ -5,7 +5,7 @@ ghost use mathlib.Core.Bool.{cond};
 ghost use Prim.Native.Nat.{_+_, _*_, _/_, _≤_, _<_};
 ghost use lib.ListN.{length};
 ghost use lib.Seq.{sets};
-ghost use Rattle.tape.specs.TapeRead.{flagsOf, cellOf};
+ghost use Rattle.tape.specs.TapeRead.{flagsOf, storedLetter};
 ghost use Rattle.tape.specs.Stored.{letterByte, codeAt, odd, styleAt};
 use crate::Style;
 use crate::wide;
@@ -26,7 +26,7 @@ fn flags(s: Style, start: bool) -> u8
 // Stores letter number `count`.
 pub fn put_letter(ws: &mut [u8], count: usize, code: u32, s: Style, start: bool)
     requires { ⌜ (8 * count + 8 ≤ length (now ws)) × (code < 16777216) ⌝ }
-    ensures { λ _. ⌜ now (ws .exit) ≡ sets (now (ws .entry)) (8 * count) (cellOf code s start) ⌝ }
+    ensures { λ _. ⌜ now (ws .exit) ≡ sets (now (ws .entry)) (8 * count) (storedLetter code s start) ⌝ }
 {
     let i = 8 * count;
     ws[i] = (code / 65536) as u8;

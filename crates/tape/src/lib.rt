@@ -135,11 +135,11 @@ impl State {
     }
 
     // Passes the 00 of a list or a name: a name's stores ": ".
-    fn finish(self, ws: &mut [u8], s: Style, name: bool, next: usize) -> State
-        requires { ⌜ 8 * (self .count + added name 0) ≤ length (now ws) ⌝ }
-        ensures { λ r. ⌜ Wrote (now (ws .entry)) (now (ws .exit)) self r (says ends s name) next ⌝ }
+    fn finish(self, ws: &mut [u8], s: Style, naming: bool, next: usize) -> State
+        requires { ⌜ 8 * (self .count + added naming 0) ≤ length (now ws) ⌝ }
+        ensures { λ r. ⌜ Wrote (now (ws .entry)) (now (ws .exit)) self r (says ends s naming) next ⌝ }
     {
-        if name {
+        if naming {
             let colon = self.put(ws, s, 0x3a, next);
             return colon.put(ws, s, 0x20, next);
         }

@@ -52,23 +52,23 @@ pub fn read_list(
     ws: &mut [u8],
     st: State,
     style: Style,
-    name: bool,
+    naming: bool,
     depth: usize,
 ) -> Step
     requires { ⌜ Ready (now tape) (now ws) st × (depth ≤ deepest) ⌝ }
-    ensures { λ r. ⌜ ListRead (now (tape .entry)) (now (ws .entry)) (now (ws .exit)) name depth st style r ⌝ }
+    ensures { λ r. ⌜ ListRead (now (tape .entry)) (now (ws .entry)) (now (ws .exit)) naming depth st style r ⌝ }
 {
     let mut s = st;
     while s.at < tape.len() {
         let at = s.at;
-        let fault = command::fault(tape, at, s.count, name, depth);
+        let fault = command::fault(tape, at, s.count, naming, depth);
         if fault != 0 {
             return Step::Refused(fault, at);
         }
         if tape[at] == 0x00 {
-            return Step::Done(s.finish(ws, style, name, at + 1));
+            return Step::Done(s.finish(ws, style, naming, at + 1));
         }
-        match read_segment(tape, ws, s, style, name, depth) {
+        match read_segment(tape, ws, s, style, naming, depth) {
             Step::Done(after) => {
                 s = read_letters(tape, ws, after, style);
             }
@@ -77,7 +77,7 @@ pub fn read_list(
             }
         }
     }
-    if command::is_outer(name, depth) {
+    if command::is_outer(naming, depth) {
         return Step::Done(s);
     }
     Step::Refused(3, tape.len())
@@ -89,11 +89,11 @@ fn read_segment(
     ws: &mut [u8],
     st: State,
     style: Style,
-    name: bool,
+    naming: bool,
     depth: usize,
 ) -> Step
-    requires { ⌜ Sound (now tape) (now ws) st name depth × (0 < byteOf (now tape) st) × (depth ≤ deepest) ⌝ }
-    ensures { λ r. ⌜ SegmentRead (now (tape .entry)) (now (ws .entry)) (now (ws .exit)) name depth st style r ⌝ }
+    requires { ⌜ Sound (now tape) (now ws) st naming depth × (0 < byteOf (now tape) st) × (depth ≤ deepest) ⌝ }
+    ensures { λ r. ⌜ SegmentRead (now (tape .entry)) (now (ws .entry)) (now (ws .exit)) naming depth st style r ⌝ }
 {
     let at = st.at;
     let c = tape[at];

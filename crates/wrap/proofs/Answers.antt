@@ -16,8 +16,8 @@ use Rattle.tape.proofs.Answers.{Fits, fits}
 use Rattle.tape.proofs.Calls.{Bounded, refuse-bounded, weaken, accepted-is, Packs, packs}
 use Rattle.wrap.specs.Wrap.{Caption, mostColumns, captionOf, wrapCall}
 use Rattle.wrap.specs.Wrapped.{Wrapped}
-use Rattle.wrap.proofs.Few.{few-lines}
-use Rattle.wrap.proofs.Whole.{or-none, white}
+use Rattle.wrap.proofs.FewLines.{few-lines}
+use Rattle.wrap.proofs.CallWrap.{or-none, white}
 
 -- a caption that was wrapped in a workspace of `room` bytes
 pub record Small (room : ℕ) (c : Caption) : Type 0 where

@@ -1,4 +1,4 @@
--- Document 01's cases a to g, and some more: tapes, and what the call makes of them, by computation.
+-- Tapes, and what a call of Wrap makes of them, by computation. Document 01's cases a to l stand in one table, in compositor's `Cases`.
 use mathlib.Core.Path.{_≡_, refl}
 use mathlib.Core.List.{List, [], _∷_, _++_, flatten}
 use Prim.Native.Nat.{ℕ}
@@ -8,7 +8,7 @@ use Rattle.tape.specs.Command.{codePoint, isLetter, isOpener, isScalar, added, 
 use Rattle.tape.specs.Runs.{mergeInto, lettersOf}
 use Rattle.tape.specs.Tape.{leastRoom, read, tapeRuns, tapeLetters, tapeRead}
 use Rattle.tape.specs.Segments.{letterBytes, lettersBytes}
-use Rattle.wrap.specs.Lines.{Line, upFrom, withoutLast, visibleCols, logicalLines, tokenise, isSpaceToken, chunks, putChunks, place, putToken, putTokens, fill, wrapRuns}
+use Rattle.wrap.specs.Lines.{Line, upFrom, withoutLast, visibleCols, logicalLines, tokenise, isSpaceToken, chunks, putChunks, addOrBreak, putToken, putTokens, fill, wrapRuns}
 use Rattle.wrap.specs.Wrap.{wrapCall, twos, lineTable, lineBytes}
 
 -- at a limit of so many columns the tape makes these lines
@@ -23,23 +23,9 @@ abbrev Refuses : ℕ → ℕ → List ℕ → ℕ → Type 0
 Refuses limit room tape number = wrapCall limit room tape ≡ refused number 0
 
 pub record Cases : Type 0 where
-  pub a : Makes 4 [] []
-  pub b : Makes 4 (lettersBytes (0x41 ∷ 0x42 ∷ 0x43 ∷ 0x44 ∷ [])) ((0 ∷ 1 ∷ 2 ∷ 3 ∷ []) ∷ [])
-  pub c : Makes 4 (lettersBytes (0x41 ∷ 0x42 ∷ 0x43 ∷ 0x44 ∷ 0x45 ∷ [])) ((0 ∷ 1 ∷ 2 ∷ 3 ∷ []) ∷ (4 ∷ []) ∷ [])
-  -- the last chunk fills its line, which is closed, and the break closes the empty one after it
-  pub d :
-      Makes 4 (lettersBytes (0x41 ∷ 0x42 ∷ 0x43 ∷ 0x44 ∷ 0x45 ∷ 0x46 ∷ 0x47 ∷ 0x48 ∷ []) ++ (0x05 ∷ 0x02 ∷ 0x49 ∷ []))
-      ((0 ∷ 1 ∷ 2 ∷ 3 ∷ []) ∷ (4 ∷ 5 ∷ 6 ∷ 7 ∷ []) ∷ [] ∷ (9 ∷ []) ∷ [])
-  pub e : Makes 4 (lettersBytes (0x41 ∷ 0x42 ∷ 0x01 ∷ 0x43 ∷ 0x44 ∷ 0x45 ∷ [])) ((0 ∷ 1 ∷ 2 ∷ 3 ∷ []) ∷ (4 ∷ 5 ∷ []) ∷ [])
   -- four letters with 3 columns, and two with 2; then the numbers
-  pub e-leaves :
+  pub table :
       Leaves 4 (lettersBytes (0x41 ∷ 0x42 ∷ 0x01 ∷ 0x43 ∷ 0x44 ∷ 0x45 ∷ [])) (4 ∷ 3 ∷ 2 ∷ 2 ∷ 0 ∷ 1 ∷ 2 ∷ 3 ∷ 4 ∷ 5 ∷ [])
-  pub f : Makes 2 (lettersBytes (0x41 ∷ 0x20 ∷ 0x20 ∷ 0x42 ∷ [])) ((0 ∷ []) ∷ (3 ∷ []) ∷ [])
-  -- with a bold empty text between A and B, and without it
-  pub g :
-      Makes 3 (0x02 ∷ 0x58 ∷ 0x02 ∷ 0x20 ∷ 0x02 ∷ 0x41 ∷ 0x06 ∷ 0x01 ∷ 0x00 ∷ 0x02 ∷ 0x42 ∷ [])
-      ((0 ∷ 1 ∷ 2 ∷ []) ∷ (3 ∷ []) ∷ [])
-  pub g-without : Makes 3 (lettersBytes (0x58 ∷ 0x20 ∷ 0x41 ∷ 0x42 ∷ [])) ((0 ∷ []) ∷ (2 ∷ 3 ∷ []) ∷ [])
   -- the example of the program `lines`
   pub example :
       Leaves 4 (lettersBytes (0x41 ∷ 0x42 ∷ 0x43 ∷ 0x44 ∷ 0x45 ∷ 0x20 ∷ 0x46 ∷ []) ++ (0x05 ∷ 0x02 ∷ 0x47 ∷ []))
@@ -71,18 +57,10 @@ pub record Cases : Type 0 where
   pub faulty : Refuses 4 65536 (0x0c ∷ []) 1
 
 pub cases : Cases
-unfolding wrapCall wrapRuns visibleCols logicalLines tokenise isSpaceToken chunks putChunks place putToken putTokens fill withoutLast upFrom twos lineTable flatten tapeRead tapeLetters tapeRuns read faultOf commandOf codePoint isLetter isOpener isScalar added mergeInto lettersOf sameStyle letterBytes
+unfolding wrapCall wrapRuns visibleCols logicalLines tokenise isSpaceToken chunks putChunks addOrBreak putToken putTokens fill withoutLast upFrom twos lineTable flatten tapeRead tapeLetters tapeRuns read faultOf commandOf codePoint isLetter isOpener isScalar added mergeInto lettersOf sameStyle letterBytes
 cases =
     record {
-      a = refl;
-      b = refl;
-      c = refl;
-      d = refl;
-      e = refl;
-      e-leaves = refl;
-      f = refl;
-      g = refl;
-      g-without = refl;
+      table = refl;
       example = refl;
       spaces = refl;
       tab = refl;

@@ -9,18 +9,18 @@ use Rattle.wrap.specs.Filled.{between}
 use Rattle.wrap.proofs.Lists.{length-between, take-between, drop-between}
 
 -- one chunk is enough
-all-one : (L room : ℕ) (t : Line) → length t ≤ room → chunks L room t ≡ t ∷ []
+all-one : (L spare : ℕ) (t : Line) → length t ≤ spare → chunks L spare t ≡ t ∷ []
 unfolding chunks
-all-one L room [] h = refl
+all-one L spare [] h = refl
 all-one L zero (k ∷ t) h = absurd (omega arith)
-all-one L (suc room) (k ∷ t) h = ap (ontoFirst k) (all-one L room t (omega arith))
+all-one L (suc spare) (k ∷ t) h = ap (ontoFirst k) (all-one L spare t (omega arith))
 
-one-more : (L room : ℕ) (t : Line) → 1 ≤ L → room < length t → chunks L room t ≡ take room t ∷ hardBreak L (drop room t)
+one-more : (L spare : ℕ) (t : Line) → 1 ≤ L → spare < length t → chunks L spare t ≡ take spare t ∷ hardBreak L (drop spare t)
 unfolding chunks
-one-more L room [] h k = absurd (omega arith)
+one-more L spare [] h k = absurd (omega arith)
 one-more zero zero (x ∷ t) h k = absurd (omega arith)
 one-more (suc L) zero (x ∷ t) h k = let e : suc L - 1 ≡ L = omega arith in rw e
-one-more L (suc room) (x ∷ t) h k = ap (ontoFirst x) (one-more L room t h (omega arith))
+one-more L (suc spare) (x ∷ t) h k = ap (ontoFirst x) (one-more L spare t h (omega arith))
 
 module _ (L k j : ℕ) (one : 1 ≤ L) where
   -- the chunks of the letters from k up to j
@@ -39,8 +39,8 @@ unfolding flatten
 onto-all k [] = refl
 onto-all k (t ∷ ts) = refl
 
-pub chunks-all : (L room : ℕ) (t : Line) → flatten (chunks L room t) ≡ t
+pub chunks-all : (L spare : ℕ) (t : Line) → flatten (chunks L spare t) ≡ t
 unfolding chunks flatten
-chunks-all L room [] = refl
+chunks-all L spare [] = refl
 chunks-all L zero (k ∷ t) = onto-all k (chunks L (L - 1) t) ∙ ap (λ (x : Line). k ∷ x) (chunks-all L (L - 1) t)
-chunks-all L (suc room) (k ∷ t) = onto-all k (chunks L room t) ∙ ap (λ (x : Line). k ∷ x) (chunks-all L room t)
+chunks-all L (suc spare) (k ∷ t) = onto-all k (chunks L spare t) ∙ ap (λ (x : Line). k ∷ x) (chunks-all L spare t)

@@ -9,9 +9,9 @@ use lib.ListN.{length, getD}
 use borrow.Author.Tests.{ltb-false}
 use Rattle.tape.specs.Runs.{Letter}
 use Rattle.wrap.specs.Columns.{isSpace}
-use Rattle.wrap.specs.Lines.{Line, Filling, upFrom, ontoFirst, keep, withoutLast, codeOf, visibleCols, logicalLines, tokenise, isSpaceToken, chunks, hardBreak, noLines, close, closeIf, add, hasColumns, putChunk, putChunks, place, passes, putToken, putTokens, fill, filled, trimTrailingSpace, isEmptyLine, wrapRuns}
+use Rattle.wrap.specs.Lines.{Line, Filling, upFrom, ontoFirst, keep, withoutLast, codeOf, visibleCols, logicalLines, tokenise, isSpaceToken, chunks, hardBreak, noLines, close, closeIf, add, hasColumns, putChunk, putChunks, addOrBreak, passes, putToken, putTokens, fill, filled, trimTrailingSpace, isEmptyLine, wrapRuns}
 use Rattle.wrap.proofs.Lists.{cases}
-use Rattle.wrap.proofs.Cols.{cols-append, cols-le, closed-none}
+use Rattle.wrap.proofs.ColumnCounts.{cols-append, cols-le, closed-none}
 
 module _ (ls : List Letter) (L : ℕ) (one : 1 ≤ L) where
   -- of lines
@@ -32,26 +32,26 @@ module _ (ls : List Letter) (L : ℕ) (one : 1 ≤ L) where
 
   -- of chunks: the first has room for so many letters
   unfoldable Short : ℕ → List Line → Type 0
-  Short room [] = Unit
-  Short room (t ∷ ts) = (length t ≤ room) × Within ts
+  Short spare [] = Unit
+  Short spare (t ∷ ts) = (length t ≤ spare) × Within ts
 
-  onto-short : (room k : ℕ) (ts : List Line) → Short room ts → Short (suc room) (ontoFirst k ts)
+  onto-short : (spare k : ℕ) (ts : List Line) → Short spare ts → Short (suc spare) (ontoFirst k ts)
   unfolding Short Within
-  onto-short room k [] s = (omega arith, tt)
-  onto-short room k (t ∷ ts) s = let h = s .0 in (omega arith, s .1)
+  onto-short spare k [] s = (omega arith, tt)
+  onto-short spare k (t ∷ ts) s = let h = s .0 in (omega arith, s .1)
 
-  short-within : (room : ℕ) (ts : List Line) → room ≤ L → Short room ts → Within ts
+  short-within : (spare : ℕ) (ts : List Line) → spare ≤ L → Short spare ts → Within ts
   unfolding Short Within
-  short-within room [] h s = tt
-  short-within room (t ∷ ts) h s = let n = s .0 in let c = cols-le ls t in (omega arith, s .1)
+  short-within spare [] h s = tt
+  short-within spare (t ∷ ts) h s = let n = s .0 in let c = cols-le ls t in (omega arith, s .1)
 
-  chunks-short : (room : ℕ) (t : Line) → room ≤ L → Short room (chunks L room t)
+  chunks-short : (spare : ℕ) (t : Line) → spare ≤ L → Short spare (chunks L spare t)
   unfolding chunks Short Within
-  chunks-short room [] h = (omega arith, tt)
+  chunks-short spare [] h = (omega arith, tt)
   chunks-short zero (k ∷ t) h =
       let rest : List Line = chunks L (L - 1) t in
       (omega arith, short-within (suc (L - 1)) (ontoFirst k rest) (omega arith) (onto-short (L - 1) k rest (chunks-short (L - 1) t (omega arith))))
-  chunks-short (suc room) (k ∷ t) h = onto-short room k (chunks L room t) (chunks-short room t (omega arith))
+  chunks-short (suc spare) (k ∷ t) h = onto-short spare k (chunks L spare t) (chunks-short spare t (omega arith))
 
   -- of a filling
   unfoldable Fine : Filling → Type 0
@@ -80,16 +80,16 @@ module _ (ls : List Letter) (L : ℕ) (one : 1 ≤ L) where
   chunks-fine f [] w h = w
   chunks-fine f (t ∷ ts) w h = chunks-fine (putChunk ls L f t) ts (chunk-fine f t w (h .0)) (h .1)
 
-  place-fine : (f : Filling) (t : Line) → Fine f → (visibleCols ls t ≤ L → visibleCols ls (f .line) + visibleCols ls t ≤ L) → Fine (place ls L f t)
-  unfolding place
-  place-fine f t w h =
+  add-or-break-fine : (f : Filling) (t : Line) → Fine f → (visibleCols ls t ≤ L → visibleCols ls (f .line) + visibleCols ls t ≤ L) → Fine (addOrBreak ls L f t)
+  unfolding addOrBreak
+  add-or-break-fine f t w h =
       cases Fine (ltb L (visibleCols ls t)) _ _
       (λ _. chunks-fine f (hardBreak L t) w (short-within L _ (omega arith) (chunks-short L t (omega arith))))
       (λ e. add-fine f t w (h (ltb-false _ _ e)))
 
   -- where the token does not pass the limit, it has room
-  room : (f : Filling) (t : Line) → passes ls L f t ≡ false → visibleCols ls t ≤ L → visibleCols ls (f .line) + visibleCols ls t ≤ L
-  room f t e h = by (hasColumns ls L f) refl e
+  fits : (f : Filling) (t : Line) → passes ls L f t ≡ false → visibleCols ls t ≤ L → visibleCols ls (f .line) + visibleCols ls t ≤ L
+  fits f t e h = by (hasColumns ls L f) refl e
     where
       by : (b : Bool) → hasColumns ls L f ≡ b → (b && ltb L (visibleCols ls (f .line) + visibleCols ls t)) ≡ false
           → visibleCols ls (f .line) + visibleCols ls t ≤ L
@@ -107,8 +107,8 @@ module _ (ls : List Letter) (L : ℕ) (one : 1 ≤ L) where
       cases Fine (eqb (visibleCols ls t) 0) _ _ (λ _. w)
       (λ _. cases Fine (isSpaceToken ls t && not (hasColumns ls L f)) _ _ (λ _. w)
       (λ _. cases Fine (passes ls L f t) _ _
-      (λ _. cases Fine (isSpaceToken ls t) _ _ (λ _. next) (λ _. place-fine (close f) t next (fresh t)))
-      (λ e. place-fine f t w (room f t e))))
+      (λ _. cases Fine (isSpaceToken ls t) _ _ (λ _. next) (λ _. add-or-break-fine (close f) t next (fresh t)))
+      (λ e. add-or-break-fine f t w (fits f t e))))
 
   tokens-fine : (f : Filling) (ts : List Line) → Fine f → Fine (putTokens ls L f ts)
   unfolding putTokens

@@ -23,7 +23,3 @@ isControl c = leb c 0x1f || (leb 0x7f c && leb c 0x9f)
 -- the columns of a letter: none for a control, but one for tab and for every other letter
 abbrev pub columnsOf : ℕ → ℕ
 columnsOf c = cond (isControl c && not (isTab c)) 0 1
-
--- neither space, tab, break nor control: for a law about lines, not for players
-abbrev pub isShown : ℕ → Bool
-isShown c = not (isBlank c) && (not (isBreak c) && not (isControl c))

@@ -10,7 +10,7 @@ use Rattle.tape.specs.Runs.{Letter}
 use Rattle.tape.specs.Tape.{leastRoom}
 use Rattle.wrap.specs.declared.line.Cursor.{Cursor}
 use Rattle.wrap.specs.Columns.{isBreak, isBlank}
-use Rattle.wrap.specs.Lines.{Line, Filling, upFrom, letterOf, codeOf, blank, visibleCols, isSpaceToken, closeIf, filled, trimTrailingSpace, isEmptyLine}
+use Rattle.wrap.specs.Lines.{Line, Filling, upFrom, letterOf, codeOf, isBlankLetter, visibleCols, isSpaceToken, closeIf, filled, trimTrailingSpace, isEmptyLine}
 use Rattle.wrap.specs.Wrap.{mostColumns, twos, lineTable}
 use Rattle.wrap.specs.Laid.{numbersFrom, tableFrom, Holds}
 
@@ -29,7 +29,7 @@ more ls b (k ∷ ks) = cond (goesOn b (letterOf ls k .start) (codeOf ls k)) (suc
 
 -- where the token ends that begins with letter i
 abbrev pub endOf : List Letter → ℕ → ℕ
-endOf ls i = i + 1 + more ls (blank ls i) (between (i + 1) (length ls))
+endOf ls i = i + 1 + more ls (isBlankLetter ls i) (between (i + 1) (length ls))
 
 -- ---- the cursor
 
@@ -100,7 +100,8 @@ pub record Closed (b : Bool) (c : Cursor) (ws : List ℕ) (c' : Cursor) (ws' : L
   pub cursor : c' ≡ cond b (closed c) c
   pub held : (ls : List Letter) (f : Filling) → Held ls f c ws → Held ls (closeIf b f) c' ws'
 
--- The letters before j have been passed, and a filling became what `step` makes of it, where `known` holds of the letters.
+-- The letters before j have been passed, and a filling became what `step` makes of it, where `known` holds of the
+-- letters.
 pub record Turns (known : List Letter → Type 0) (step : List Letter → Filling → Filling) (j : ℕ)
     (c : Cursor) (ws : List ℕ) (c' : Cursor) (ws' : List ℕ) : Type 0 where
   pub sane : Sane c' j
@@ -116,7 +117,7 @@ Wide columns i j ls = columns ≡ visibleCols ls (between i j)
 
 -- these letters are all of one kind, that of the first
 abbrev pub OneKind : ℕ → ℕ → List Letter → Type 0
-OneKind i j ls = isSpaceToken ls (between i j) ≡ blank ls i
+OneKind i j ls = isSpaceToken ls (between i j) ≡ isBlankLetter ls i
 
 -- all letters have been passed, and every line is closed
 pub record Finished (count limit : ℕ) (ws : List ℕ) (c : Cursor) (ws' : List ℕ) : Type 0 where

@@ -18,6 +18,14 @@ numbersFrom = 32768
 abbrev pub tableFrom : ℕ
 tableFrom = 40960
 
+-- how many numbers there are in two bytes
+abbrev pub twoByteNumbers : ℕ
+twoByteNumbers = 65536
+
+-- the most lines of a caption: that there are no more is `few-lines` of proofs/FewLines.antt
+abbrev pub mostLines : ℕ
+mostLines = mostLetters + 1
+
 -- read back: a number in two bytes
 abbrev pub twoAt : List ℕ → ℕ → ℕ
 twoAt ws at = getD ws at 0 * 256 + getD ws (at + 1) 0
@@ -42,7 +50,8 @@ pub record HoldsLines (ls : List Letter) (lines : List Line) (ws : List ℕ) : T
   pub numbers : slice numbersFrom (numbersFrom + 2 * length (flatten lines)) ws ≡ twos (flatten lines)
   pub table : slice tableFrom (tableFrom + 4 * length lines) ws ≡ lineTable ls lines
 
--- the letters were wrapped: the workspace holds them and their lines, of which `made` tells how many there are, and letters on them
+-- the letters were wrapped: the workspace holds them and their lines, of which `made` tells how many there are, and
+-- letters on them
 pub record Laid (ls : List Letter) (limit : ℕ) (made : Lines) (ws : List ℕ) : Type 0 where
   pub letters : Holds ls ws
   pub lines : HoldsLines ls (wrapRuns ls limit) ws

@@ -1,10 +1,11 @@
 -- HOW A CAPTION IS BROKEN INTO LINES: document 01, "Runs and lines", from its second paragraph on. Definitions only.
 --
--- A caption is a list of letters, numbered from 0, and a line is a list of letter numbers. `wrapRuns` gives the lines at a limit of L columns.
+-- A caption is a list of letters, numbered from 0, and a line is a list of letter numbers. `wrapRuns` gives the lines
+-- at a limit of L columns.
 -- It goes in five steps, which stand below in this order:
 --   `logicalLines`        the letters are cut at breaks
 --   `tokenise`            a logical line is cut into tokens
---   `putToken`            tokens are put on lines, by the rules 1 to 4
+--   `putToken`            tokens are put on lines, by the rules 1 and 2, and then 3 and 4, which stand before them
 --   `trimTrailingSpace`   spaces at the end of each line go
 --   `isEmptyLine`         letterless lines at the end go
 use mathlib.Core.Bool.{Bool, true, false, _&&_, not, cond, Bool·beq}
@@ -13,7 +14,7 @@ use Prim.Native.Nat.{ℕ, zero, suc, _+_, _-_}
 use lib.Dec.{eqb, leb, ltb}
 use lib.ListN.{length, getD}
 use Rattle.tape.specs.Runs.{Letter}
-use Rattle.wrap.specs.Columns.{isBreak, isSpace, isBlank, columnsOf, isShown}
+use Rattle.wrap.specs.Columns.{isBreak, isSpace, isBlank, columnsOf}
 
 abbrev pub Line : Type 0
 Line = List ℕ
@@ -28,7 +29,7 @@ abbrev pub ontoFirst : ℕ → List Line → List Line
 ontoFirst k [] = (k ∷ []) ∷ []
 ontoFirst k (l ∷ lines) = (k ∷ l) ∷ lines
 
--- x before what is left of the list behind it; where nothing is left, x goes too if the test holds of it
+-- x and then a list; where the list is empty and the test holds of x, nothing
 abbrev pub keep : {A : Type 0} → (A → Bool) → A → List A → List A
 keep test x [] = cond (test x) [] (x ∷ [])
 keep test x (y ∷ ys) = x ∷ y ∷ ys
@@ -55,8 +56,9 @@ module _ (ls : List Letter) where
   abbrev pub codeOf : ℕ → ℕ
   codeOf k = letterOf k .code
 
-  abbrev pub blank : ℕ → Bool
-  blank k = isBlank (codeOf k)
+  -- a space or a tab
+  abbrev pub isBlankLetter : ℕ → Bool
+  isBlankLetter k = isBlank (codeOf k)
 
   unfoldable pub visibleCols : Line → ℕ
   visibleCols [] = 0
@@ -72,7 +74,7 @@ module _ (ls : List Letter) where
 
   -- m, right after k, is in the token of k: it is of the same kind, and no run starts with it
   abbrev pub together : ℕ → ℕ → Bool
-  together k m = Bool·beq (blank k) (blank m) && not (letterOf m .start)
+  together k m = Bool·beq (isBlankLetter k) (isBlankLetter m) && not (letterOf m .start)
 
   -- one more letter before tokens (of which none is empty): it joins the first, or is one of its own
   abbrev pub ontoToken : ℕ → List Line → List Line
@@ -87,16 +89,16 @@ module _ (ls : List Letter) where
   -- a space token: all its letters are space or tab
   unfoldable pub isSpaceToken : Line → Bool
   isSpaceToken [] = true
-  isSpaceToken (k ∷ ks) = blank k && isSpaceToken ks
+  isSpaceToken (k ∷ ks) = isBlankLetter k && isSpaceToken ks
 
--- A token cut into chunks of L letters, controls counted; the last may be shorter, and none is empty: 8 letters at L = 4 are two chunks. `room` is
--- how many letters more the first may have.
+-- Letters cut into chunks of L, controls counted; the last may have fewer. So 8 letters at L = 4 are two chunks.
+-- `spare` is how many letters more the first chunk may have. No chunk of a token is empty, for a token has letters.
 unfoldable pub chunks : ℕ → ℕ → Line → List Line
-chunks L room [] = [] ∷ []
-chunks L (suc room) (k ∷ ks) = ontoFirst k (chunks L room ks)
+chunks L spare [] = [] ∷ []
+chunks L (suc spare) (k ∷ ks) = ontoFirst k (chunks L spare ks)
 chunks L zero (k ∷ ks) = [] ∷ ontoFirst k (chunks L (L - 1) ks)
 
--- and to begin with that is all L
+-- the chunks of a token: the first may have L letters
 abbrev pub hardBreak : ℕ → Line → List Line
 hardBreak L t = chunks L L t
 
@@ -135,8 +137,8 @@ module _ (ls : List Letter) (L : ℕ) where
   putChunks f (t ∷ ts) = putChunks (putChunk f t) ts
 
   -- rule 3: a token of more than L columns is put chunk by chunk; rule 4: any other is added
-  unfoldable pub place : Filling → Line → Filling
-  place f t = cond (ltb L (visibleCols ls t)) (putChunks f (hardBreak L t)) (add f t)
+  unfoldable pub addOrBreak : Filling → Line → Filling
+  addOrBreak f t = cond (ltb L (visibleCols ls t)) (putChunks f (hardBreak L t)) (add f t)
 
   -- the line has columns, and with the token it would pass L
   abbrev pub passes : Filling → Line → Bool
@@ -148,14 +150,16 @@ module _ (ls : List Letter) (L : ℕ) where
   putToken f t =
       cond (eqb (visibleCols ls t) 0) f
       (cond (isSpaceToken ls t && not (hasColumns f)) f
-      (cond (passes f t) (cond (isSpaceToken ls t) (close f) (place (close f) t))
-      (place f t)))
+      (cond (passes f t) (cond (isSpaceToken ls t) (close f) (addOrBreak (close f) t))
+      (addOrBreak f t)))
 
   unfoldable pub putTokens : Filling → List Line → Filling
   putTokens f [] = f
   putTokens f (t ∷ ts) = putTokens (putToken f t) ts
 
-  -- logical line after logical line; the last line of each is closed always, even empty
+  -- Logical line after logical line; the last line of each is closed always, even empty. So a word whose last chunk
+  -- just fills its line, and a break behind it, leave a blank line; a word of just L columns, which is not cut, does
+  -- not.
   unfoldable pub fill : Filling → List Line → Filling
   fill f [] = f
   fill f (l ∷ lines) = fill (close (putTokens f (tokenise ls l))) lines
@@ -176,9 +180,3 @@ isEmptyLine (k ∷ ks) = false
 -- the lines of letters, at a limit of L columns
 unfoldable pub wrapRuns : List Letter → ℕ → List Line
 wrapRuns ls L = withoutLast isEmptyLine (map (trimTrailingSpace ls) (filled ls L .closed))
-
--- those of a line that are neither space, tab, break nor control: not for players; it is proved that all of these stand on the lines, once
--- each and in order
-unfoldable pub shown : List Letter → Line → Line
-shown ls [] = []
-shown ls (k ∷ ks) = cond (isShown (codeOf ls k)) (k ∷ shown ls ks) (shown ls ks)

@@ -22,10 +22,10 @@ captionOf L ls = record { letters = ls; lines = wrapRuns ls L }
 abbrev pub mostColumns : ℕ
 mostColumns = 4096
 
--- What a call of Wrap comes to, with a column limit, a workspace of `room` bytes and a tape: 8, or what the tape comes to.
--- It takes no color, so the outer list has FF four times. Draw has its default color there, so that where this is another the two may break a
--- tape differently: a list in white joins what is around it in Wrap and is a run of its own in Draw, and a list in the default color the other
--- way round.
+-- What a call of Wrap comes to, with a column limit, a workspace of `room` bytes and a tape: 8, or what the tape comes
+-- to. It takes no color, so the outer list has FF four times. Draw has its default color there, so that where this is
+-- another the two may break a tape differently: a list in white joins what is around it in Wrap and is a run of its own
+-- in Draw, and a list in the default color the other way round.
 unfoldable pub wrapCall : ℕ → ℕ → List ℕ → Outcome Caption
 wrapCall L room tape =
     refuseIf (ltb L 1 || ltb mostColumns L) 8 0 (onAccepted (captionOf L) (tapeRead (defaultWith (replicate 4 0xff)) room tape))

@@ -5,7 +5,7 @@ ghost use lib.ListN.{length};
 ghost use Rattle.tape.specs.Command.{mostLetters};
 ghost use Rattle.tape.specs.Runs.{Letter};
 ghost use Rattle.tape.specs.Tape.{leastRoom};
-ghost use Rattle.wrap.specs.Lines.{Filling, hardBreak, putChunk, putChunks, place as placed, putToken};
+ghost use Rattle.wrap.specs.Lines.{Filling, hardBreak, putChunk, putChunks, addOrBreak, putToken};
 ghost use Rattle.wrap.specs.Wrap.{mostColumns};
 ghost use Rattle.wrap.specs.Filled.{between, Ready, Turns, Any, Wide, OneKind, Finished};
 use crate::line::Cursor;
@@ -38,9 +38,16 @@ fn hard_break(ws: &mut [u8], line: Cursor, i: usize, j: usize, limit: usize) -> 
 }
 
 // Rules 3 and 4: the token from i up to j, of so many columns, on the line or in chunks.
-fn place(ws: &mut [u8], line: Cursor, i: usize, j: usize, columns: usize, limit: usize) -> Cursor
+fn add_or_break(
+    ws: &mut [u8],
+    line: Cursor,
+    i: usize,
+    j: usize,
+    columns: usize,
+    limit: usize,
+) -> Cursor
     requires { ⌜ Ready line (now ws) i j limit × (columns ≤ j - i) ⌝ }
-    ensures { λ r. ⌜ Turns (Wide columns i j) (λ (ls : List Letter) (f : Filling). placed ls limit f (between i j)) j line (now (ws .entry)) r (now (ws .exit)) ⌝ }
+    ensures { λ r. ⌜ Turns (Wide columns i j) (λ (ls : List Letter) (f : Filling). addOrBreak ls limit f (between i j)) j line (now (ws .entry)) r (now (ws .exit)) ⌝ }
 {
     if limit < columns {
         return hard_break(ws, line, i, j, limit);
@@ -62,7 +69,7 @@ fn put_token(ws: &mut [u8], line: Cursor, i: usize, j: usize, limit: usize) -> C
     if next.drops(token::is_blank_letter(ws, i)) {
         return next;
     }
-    place(ws, next, i, j, columns, limit)
+    add_or_break(ws, next, i, j, columns, limit)
 }
 
 // All letters, a break or a token after the other.

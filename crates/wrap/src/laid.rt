@@ -2,16 +2,18 @@
 ghost use mathlib.Core.Path.{_≡_};
 ghost use Prim.Native.Nat.{_+_, _*_, _≤_, _<_};
 ghost use lib.ListN.{length};
-ghost use Rattle.wrap.specs.Laid.{numbersFrom, tableFrom, twoAt, numberAt, lettersOn, columnsOn};
+ghost use Rattle.wrap.specs.Laid.{numbersFrom, tableFrom, twoByteNumbers, twoAt, numberAt, lettersOn, columnsOn};
 
+// Where the numbers of the letters on lines begin, two bytes each.
 pub const NUMBERS: usize = 32768;
 
+// Where the table of lines begins, four bytes each.
 pub const TABLE: usize = 40960;
 
 // A number in two bytes, high byte first.
 fn two_at(ws: &[u8], at: usize) -> usize
     requires { ⌜ at + 2 ≤ length (now ws) ⌝ }
-    ensures { λ r. ⌜ (r ≡ twoAt (now (ws .entry)) at) × (r < 65536) ⌝ }
+    ensures { λ r. ⌜ (r ≡ twoAt (now (ws .entry)) at) × (r < twoByteNumbers) ⌝ }
 {
     tape::wide(ws[at]) as usize * 256 + tape::wide(ws[at + 1]) as usize
 }
@@ -35,7 +37,7 @@ pub fn letters_on(ws: &[u8], line: usize) -> usize
 // How many columns a line has.
 pub fn columns_on(ws: &[u8], line: usize) -> usize
     requires { ⌜ tableFrom + 4 * line + 4 ≤ length (now ws) ⌝ }
-    ensures { λ r. ⌜ (r ≡ columnsOn (now (ws .entry)) line) × (r < 65536) ⌝ }
+    ensures { λ r. ⌜ (r ≡ columnsOn (now (ws .entry)) line) × (r < twoByteNumbers) ⌝ }
 {
     two_at(ws, TABLE + 4 * line + 2)
 }

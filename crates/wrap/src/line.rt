@@ -11,14 +11,14 @@ ghost use Rattle.tape.specs.Runs.{Letter};
 ghost use Rattle.tape.specs.Tape.{leastRoom};
 ghost use Rattle.wrap.specs.Lines.{Filling, add, trimTrailingSpace};
 ghost use Rattle.wrap.specs.Wrap.{mostColumns, two, twos};
-ghost use Rattle.wrap.specs.Laid.{Holds};
+ghost use Rattle.wrap.specs.Laid.{twoByteNumbers, Holds};
 ghost use Rattle.wrap.specs.Filled.{between, added, Sane, Closed, Turns, Wide};
 use crate::laid::NUMBERS;
 use crate::laid::TABLE;
 use crate::token;
 
 fn put_two(ws: &mut [u8], at: usize, v: usize)
-    requires { ⌜ (at + 2 ≤ length (now ws)) × (v < 65536) ⌝ }
+    requires { ⌜ (at + 2 ≤ length (now ws)) × (v < twoByteNumbers) ⌝ }
     ensures { λ _. ⌜ now (ws .exit) ≡ sets (now (ws .entry)) at (two v) ⌝ }
 {
     ws[at] = (v / 256) as u8;
@@ -27,7 +27,7 @@ fn put_two(ws: &mut [u8], at: usize, v: usize)
 
 // Writes the numbers from i up to j.
 fn put_numbers(ws: &mut [u8], at: usize, i: usize, j: usize)
-    requires { ⌜ (i ≤ j) × (j ≤ 65536) × (at + 2 * (j - i) ≤ length (now ws)) ⌝ }
+    requires { ⌜ (i ≤ j) × (j ≤ twoByteNumbers) × (at + 2 * (j - i) ≤ length (now ws)) ⌝ }
     ensures { λ _. ⌜ now (ws .exit) ≡ sets (now (ws .entry)) at (twos (between i j)) ⌝ }
 {
     let mut k = i;

@@ -26,57 +26,21 @@ pub struct Buffers<'a> {
     pub picture: &'a mut [u8],
 }
 
-unsafe extern "C" {
-    fn captions_wrap(
-        tape: *const u8,
-        tape_len: usize,
-        workspace: *mut u8,
-        workspace_len: usize,
-        column_limit: u32,
-    ) -> u64;
-
-    fn captions_draw(
-        settings: *const Settings,
-        tape: *const u8,
-        tape_len: usize,
-        workspace: *mut u8,
-        workspace_len: usize,
-        picture: *mut u8,
-        picture_len: usize,
-    ) -> u64;
-
-    fn captions_open(
-        settings: *const Settings,
-        tape: *const u8,
-        tape_len: usize,
-        workspace: *mut u8,
-        workspace_len: usize,
-        picture: *mut u8,
-        picture_len: usize,
-        stripe_height: u32,
-        record: *mut Record,
-    ) -> u64;
-
-    fn captions_work(
-        settings: *const Settings,
-        tape: *const u8,
-        tape_len: usize,
-        workspace: *mut u8,
-        workspace_len: usize,
-        picture: *mut u8,
-        picture_len: usize,
-        record: *mut Record,
-        stripe: u32,
-        budget: u32,
-    ) -> u64;
-}
-
 // The calls below are safe for one reason: each pointer and length are those of one slice, and each
-// other pointer that of one struct of numbers, lent for the call alone. Every tape, length, number
-// and record is allowed.
+// reference is to one struct of numbers, lent for the call alone. Every tape, length, number and
+// record is allowed.
 
 /// Breaks a tape's letters into lines, and answers how many the workspace then begins with.
 pub fn wrap(tape: &[u8], workspace: &mut [u8], column_limit: u32) -> u64 {
+    unsafe extern "C" {
+        fn captions_wrap(
+            tape: *const u8,
+            tape_len: usize,
+            workspace: *mut u8,
+            workspace_len: usize,
+            column_limit: u32,
+        ) -> u64;
+    }
     // Safety: as said above.
     unsafe {
         captions_wrap(
@@ -89,39 +53,47 @@ pub fn wrap(tape: &[u8], workspace: &mut [u8], column_limit: u32) -> u64 {
     }
 }
 
+/// Declares a function of the library that draws, and calls it. Each takes settings and the buffers
+/// first; what one takes behind them is named here as `include/captions.h` declares it.
+macro_rules! call {
+    ($function:ident($settings:ident, $buffers:ident $(, $name:ident: $type:ty)*)) => {{
+        unsafe extern "C" {
+            fn $function(
+                settings: &Settings,
+                tape: *const u8,
+                tape_len: usize,
+                workspace: *mut u8,
+                workspace_len: usize,
+                picture: *mut u8,
+                picture_len: usize,
+                $($name: $type),*
+            ) -> u64;
+        }
+        // Safety: as said above.
+        unsafe {
+            $function(
+                $settings,
+                $buffers.tape.as_ptr(),
+                $buffers.tape.len(),
+                $buffers.workspace.as_mut_ptr(),
+                $buffers.workspace.len(),
+                $buffers.picture.as_mut_ptr(),
+                $buffers.picture.len(),
+                $($name),*
+            )
+        }
+    }};
+}
+
 /// Draws a tape's cue, and answers how many strokes it took.
 pub fn draw(settings: &Settings, buffers: Buffers) -> u64 {
-    // Safety: as said above.
-    unsafe {
-        captions_draw(
-            settings,
-            buffers.tape.as_ptr(),
-            buffers.tape.len(),
-            buffers.workspace.as_mut_ptr(),
-            buffers.workspace.len(),
-            buffers.picture.as_mut_ptr(),
-            buffers.picture.len(),
-        )
-    }
+    call!(captions_draw(settings, buffers))
 }
 
 /// Clears the picture for a tape's cue, gives the record of stripes so high, and answers how many
 /// strokes the cue has.
 pub fn open(settings: &Settings, buffers: Buffers, stripe_height: u32, record: &mut Record) -> u64 {
-    // Safety: as said above.
-    unsafe {
-        captions_open(
-            settings,
-            buffers.tape.as_ptr(),
-            buffers.tape.len(),
-            buffers.workspace.as_mut_ptr(),
-            buffers.workspace.len(),
-            buffers.picture.as_mut_ptr(),
-            buffers.picture.len(),
-            stripe_height,
-            record,
-        )
-    }
+    call!(captions_open(settings, buffers, stripe_height: u32, record: &mut Record))
 }
 
 /// Does the next strokes of a stripe, at most its budget, and answers how many.
@@ -132,19 +104,5 @@ pub fn work(
     stripe: u32,
     budget: u32,
 ) -> u64 {
-    // Safety: as said above.
-    unsafe {
-        captions_work(
-            settings,
-            buffers.tape.as_ptr(),
-            buffers.tape.len(),
-            buffers.workspace.as_mut_ptr(),
-            buffers.workspace.len(),
-            buffers.picture.as_mut_ptr(),
-            buffers.picture.len(),
-            record,
-            stripe,
-            budget,
-        )
-    }
+    call!(captions_work(settings, buffers, record: &mut Record, stripe: u32, budget: u32))
 }

@@ -144,14 +144,9 @@ fn the_line_height_parts_lines() {
 #[test]
 fn alignments_place_a_line() {
     let left = |align| {
-        lit(
-            &Settings {
-                align,
-                ..plain(60, 16)
-            },
-            BOX,
-        )
-        .0
+        let mut settings = plain(60, 16);
+        settings.align = align;
+        lit(&settings, BOX).0
     };
     let ends = [Align::Left, Align::Start, Align::Right, Align::End];
     assert_eq!(
@@ -164,13 +159,9 @@ fn alignments_place_a_line() {
 #[test]
 fn an_outline_lies_around_a_letter() {
     let lit = |outline_px| {
-        lit(
-            &Settings {
-                outline_px,
-                ..plain(40, 24)
-            },
-            BOX,
-        )
+        let mut settings = plain(40, 24);
+        settings.outline_px = outline_px;
+        lit(&settings, BOX)
     };
     assert_eq!(lit(1), (8, 15, 9, 22));
     assert_eq!(lit(2), (7, 16, 8, 23));

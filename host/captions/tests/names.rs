@@ -69,29 +69,13 @@ fn commands_mean_what_they_are_called() {
     assert_eq!(lines(&parted), Ok(vec![1, 1]));
 }
 
+/// Which number each name has the header says: `c_interface.rs` compares.
 #[test]
 fn a_cause_has_its_number() {
-    let named = [
-        Cause::UnknownCommand,
-        Cause::OperandsMissing,
-        Cause::Unbalanced,
-        Cause::NotAScalar,
-        Cause::TooDeep,
-        Cause::TooManyLetters,
-        Cause::NotInAName,
-        Cause::OutOfRange,
-        Cause::PictureTooShort,
-        Cause::TapeTooLong,
-        Cause::WorkspaceTooShort,
-        Cause::NoSuchStripe,
-        Cause::StripesUnfit,
-        Cause::CountersUnsound,
-    ];
-    assert_eq!(Cause::ALL, named);
-    for (number, cause) in (1..).zip(named) {
-        assert_eq!(cause.number(), number);
+    for (number, cause) in (1..).zip(Cause::ALL) {
+        assert_eq!(cause.number(), number, "{cause:?}");
         assert_eq!(Cause::of(number), cause);
-        assert_eq!(cause.is_in_tape(), number <= 7);
+        assert_eq!(cause.is_in_tape(), number <= 7, "{cause:?}");
     }
 }
 

@@ -10,6 +10,7 @@ mod hex;
 mod proved;
 mod random;
 mod refusal;
+mod sample;
 mod tape;
 mod timing;
 mod work;

@@ -5,31 +5,42 @@ use crate::refusal::{self, Refusal};
 pub use captions::raw::Buffers;
 use captions::raw::{self, Record};
 
+/// What Open or Work is asked for.
+#[derive(Clone, Copy, Debug)]
+pub enum Ask {
+    Open { stripe_height: u32 },
+    Work { stripe: u32, budget: u32 },
+}
+
 /// Draws a tape's cue, and answers how many strokes it took.
 pub fn draw(settings: &Settings, buffers: Buffers) -> Result<usize, Refusal> {
-    refusal::halves(raw::draw(&settings.raw(), buffers))
+    refusal::halves(raw::draw(&raw(settings), buffers))
 }
 
-/// Clears the picture for a tape's cue, gives the record of stripes so high, and answers how many
-/// strokes the cue has.
-pub fn open(
-    settings: &Settings,
-    buffers: Buffers,
-    stripe_height: u32,
-    record: &mut Record,
-) -> Result<usize, Refusal> {
-    let answer = raw::open(&settings.raw(), buffers, stripe_height, record);
-    refusal::halves(answer)
-}
-
-/// Does the next strokes of a stripe, at most its budget, and answers how many.
-pub fn work(
+/// Opens or works, as asked, and answers how many strokes the cue has or how many were done.
+pub fn ask(
     settings: &Settings,
     buffers: Buffers,
     record: &mut Record,
-    stripe: u32,
-    budget: u32,
+    ask: Ask,
 ) -> Result<usize, Refusal> {
-    let answer = raw::work(&settings.raw(), buffers, record, stripe, budget);
-    refusal::halves(answer)
+    let settings = &raw(settings);
+    refusal::halves(match ask {
+        Ask::Open { stripe_height } => raw::open(settings, buffers, stripe_height, record),
+        Ask::Work { stripe, budget } => raw::work(settings, buffers, record, stripe, budget),
+    })
+}
+
+/// The settings as the calls take them.
+fn raw(settings: &Settings) -> raw::Settings {
+    raw::Settings {
+        width: settings.width,
+        height: settings.height,
+        default_color: u32::from_be_bytes(settings.default_color),
+        outline_color: u32::from_be_bytes(settings.outline_color),
+        line_height: settings.line_height,
+        bottom_margin: settings.bottom_margin,
+        outline: settings.outline,
+        alignment: settings.alignment,
+    }
 }

@@ -1,11 +1,13 @@
 //! Gathers the definitions of the proved crates into one text that needs no tool to read.
 //!
-//! The text is the definitions as they stand, in reading order, without what only the prover needs;
-//! before them the notation, and behind them the glyphs as numbers and examples. It is refused where
-//! a reader would meet a name or a sign that nothing in it explains.
+//! The text is the definitions as they stand, in reading order, without what only the prover needs:
+//! first the notation and what a player needs, with the glyphs as numbers and examples, and then the
+//! rest. It is refused where a reader would meet a name or a sign that nothing in it explains, or a
+//! name with two meanings.
 
 mod check;
 mod declared;
+mod glyphs;
 mod part;
 mod signs;
 mod uses;
@@ -19,68 +21,89 @@ pub const FILE: &str = "deposit/definitions.txt";
 /// What is written by hand, from the repository's root.
 const PREFACE: &str = "docs/DEPOSIT.md";
 const NOTATION: &str = "deposit/notation.txt";
+const MORE_NOTATION: &str = "deposit/more-notation.txt";
 const EXAMPLES: &str = "deposit/examples.txt";
 /// Every glyph as the proved program `specimen` writes it.
 const GLYPHS: &str = "crates/specimen/stdout";
 
-/// The definitions in reading order: a chapter's title, its crate and its files.
-const CHAPTERS: [(&str, &str, &[&str]); 12] = [
-    ("The signs", "font", &["Signs"]),
+/// Parts of a chapter: its title, their crate and their files.
+type Chapter = (&'static str, &'static str, &'static [&'static str]);
+
+/// What a player needs and what the examples ask for, in reading order.
+const FOR_PLAYERS: [Chapter; 6] = [
     (
         "The tape",
         "tape",
         &["Outcome", "Style", "Command", "Runs", "Tape"],
     ),
-    ("What a call answers and leaves", "tape", &["Call"]),
-    ("Lines", "wrap", &["Columns", "Lines", "Wrap", "Wrapped"]),
+    ("Lines", "wrap", &["Columns", "Lines"]),
     (
         "The font",
         "font",
-        &["Glyphs", "Font", "Slant", "Blend", "Stroke"],
+        &["Glyphs", "Font", "Slant", "Blend", "Paint"],
     ),
     (
         "Drawing",
         "compositor",
-        &[
-            "Settings", "Layout", "Outline", "Strokes", "Picture", "Draw", "Drawn",
-        ],
+        &["Settings", "Layout", "Outline", "Order", "Picture", "Draw"],
     ),
-    ("Stripes", "job", &["Stripes", "Work", "Worked", "History"]),
+    ("The other calls", "wrap", &["Wrap"]),
+    ("The other calls", "job", &["Stripes", "Work"]),
+];
+
+/// What stands behind the examples.
+const BEHIND: [Chapter; 12] = [
+    ("Positions in signed numbers", "compositor", &["Plain"]),
+    ("From segments to tapes", "tape", &["Segments"]),
+    ("What lines keep", "wrap", &["Shown"]),
+    ("What a call answers and leaves", "tape", &["Call"]),
+    ("What a call answers and leaves", "wrap", &["Wrapped"]),
+    ("What a call answers and leaves", "compositor", &["Drawn"]),
+    ("What a call answers and leaves", "job", &["Worked"]),
+    ("What a call answers and leaves", "tape", &["TapeRead"]),
+    ("What any list of calls leaves", "job", &["History"]),
     ("The functions for C", "tape", &["Packed"]),
+    ("The functions for C", "font", &["Colors"]),
     (
         "The functions for C",
         "captions",
         &["Interface", "HistoryInC"],
     ),
-    ("Reading by itself", "tape", &["TapeRead"]),
-    (
-        "The other way round: from segments to tapes",
-        "tape",
-        &["Segments"],
-    ),
-    ("Places in signed numbers", "compositor", &["Plain"]),
 ];
+
+/// The signs as equations, at the very end.
+const SIGNS: [Chapter; 1] = [("The signs as equations", "font", &["Signs"])];
 
 /// The whole text, or what keeps a reader from understanding it.
 pub fn gather(root: &Path) -> Result<String, String> {
-    let notation = read(root, NOTATION)?;
-    let parts = parts(root)?;
+    let [preface, notation, more, examples] =
+        [PREFACE, NOTATION, MORE_NOTATION, EXAMPLES].map(|file| page(root, file));
+    let (notation, more) = (notation?, more?);
+    let players = parts(root, &FOR_PLAYERS)?;
+    let behind = parts(root, &[&BEHIND[..], &SIGNS[..]].concat())?;
+    let parts: Vec<&Part> = players.iter().chain(&behind).collect();
+    let signs = [notation.as_str(), more.as_str()].concat();
     check::all_there(root, &parts)?;
-    check::names(&parts, &notation)?;
+    check::names(&parts, &signs)?;
+    let texts = shown_parts(root, &parts)?;
+    check::one_meaning(&parts, &texts)?;
+    let (first, later) = texts.split_at(players.len());
     let text = [
-        plain_headings(&read(root, PREFACE)?),
-        contents(&parts),
+        plain_headings(&preface?),
+        contents(&players, &behind),
         heading("Notation"),
-        notation.clone(),
-        definitions(root, &parts)?,
+        notation,
+        definitions(&players, first),
         heading("The glyphs as numbers"),
-        GLYPHS_ARE.to_owned(),
-        read(root, GLYPHS)?,
+        glyphs::table(&read(root, GLYPHS)?),
         heading("Examples"),
-        read(root, EXAMPLES)?,
+        examples?,
+        heading("More notation"),
+        more,
+        definitions(&behind, later),
     ]
     .concat();
-    signs::check(&text, &notation)?;
+    signs::check(&text, &signs)?;
     Ok(text)
 }
 
@@ -99,19 +122,19 @@ pub fn check(root: &Path) -> Result<(), String> {
     }
 }
 
-const GLYPHS_ARE: &str = "\
-Every glyph of both fonts: `regularTable` and `boldTable` of the part Font, worked out. Each line has a code point, the sixteen rows of
-its glyph in the regular font, the top row first, and those in the bold font, all hexadecimal. Two digits are a row of eight pixels;
-the highest bit is the leftmost. The last line, 0100, is the box of every code point from 100 on.
-
-";
-
 fn read(root: &Path, file: &str) -> Result<String, String> {
     fs::read_to_string(root.join(file)).map_err(|fault| format!("{file} cannot be read: {fault}"))
 }
 
-fn parts(root: &Path) -> Result<Vec<Part>, String> {
-    let sources = CHAPTERS
+/// A page that is written by hand.
+fn page(root: &Path, file: &str) -> Result<String, String> {
+    let text = read(root, file)?;
+    check::narrow(file, text.lines())?;
+    Ok(text)
+}
+
+fn parts(root: &Path, chapters: &[Chapter]) -> Result<Vec<Part>, String> {
+    let sources = chapters
         .iter()
         .flat_map(|(chapter, of, files)| files.iter().map(|file| Source { chapter, of, file }));
     sources
@@ -122,17 +145,25 @@ fn parts(root: &Path) -> Result<Vec<Part>, String> {
         .collect()
 }
 
-/// All parts, each chapter under its title.
-fn definitions(root: &Path, parts: &[Part]) -> Result<String, String> {
-    let mut text = String::new();
-    let mut shown = Vec::new();
-    for chapter in parts.chunk_by(|a, b| a.source.chapter == b.source.chapter) {
-        text += &heading(chapter[0].source.chapter);
-        for part in chapter {
-            text += &shown_part(root, part, &mut shown)?;
+/// The texts of parts, each chapter under its title.
+fn definitions(parts: &[Part], texts: &[String]) -> String {
+    let mut chapter = "";
+    let titled = parts.iter().zip(texts).map(|(part, text)| {
+        let before = std::mem::replace(&mut chapter, part.source.chapter);
+        if before == chapter {
+            text.clone()
+        } else {
+            heading(chapter) + text
         }
-    }
-    Ok(text)
+    });
+    titled.collect()
+}
+
+/// Each part as it is read.
+fn shown_parts(root: &Path, parts: &[&Part]) -> Result<Vec<String>, String> {
+    let mut shown = Vec::new();
+    let texts = parts.iter().map(|part| shown_part(root, part, &mut shown));
+    texts.collect()
 }
 
 /// A part, with the types that the code declares and that it is the first to speak of; it takes the
@@ -179,11 +210,20 @@ fn plain_headings(text: &str) -> String {
 }
 
 /// The table of contents: each chapter with its parts.
-fn contents(parts: &[Part]) -> String {
-    let mut text = String::from("\nWhat is here, in reading order:\n\n    Notation\n");
-    for chapter in parts.chunk_by(|a, b| a.source.chapter == b.source.chapter) {
+fn contents(players: &[Part], behind: &[Part]) -> String {
+    format!(
+        "\nWhat is here, in reading order:\n\n    Notation\n{}    The glyphs as numbers\n    Examples\n\
+         \nBehind the examples stands what no player needs:\n\n    More notation\n{}",
+        listed(players),
+        listed(behind)
+    )
+}
+
+fn listed(parts: &[Part]) -> String {
+    let chapters = parts.chunk_by(|a, b| a.source.chapter == b.source.chapter);
+    let lines = chapters.map(|chapter| {
         let names: Vec<_> = chapter.iter().map(|part| part.source.file).collect();
-        text += &format!("    {}: {}\n", chapter[0].source.chapter, names.join(", "));
-    }
-    text + "    The glyphs as numbers\n    Examples\n"
+        format!("    {}: {}\n", chapter[0].source.chapter, names.join(", "))
+    });
+    lines.collect()
 }

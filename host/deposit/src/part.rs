@@ -1,11 +1,11 @@
 //! One file of definitions.
 
-use crate::signs;
 use crate::uses::{self, Use};
+use crate::{check, signs};
 use std::collections::BTreeMap;
 
-/// The widest line that is made here.
-const COLUMNS: usize = 120;
+/// The widest line of a comment or of a page by hand.
+pub const COLUMNS: usize = 120;
 
 /// Said of names that are written with their part's name before them.
 const QUALIFIED: &str = "names written with its own before them";
@@ -52,6 +52,10 @@ pub struct Part {
 
 impl Part {
     pub fn new(source: Source, text: &str) -> Result<Part, String> {
+        let comments = text
+            .lines()
+            .filter(|line| line.trim_start().starts_with("--"));
+        check::narrow(&source.path(), comments)?;
         let comment = text.lines().take_while(|line| line.starts_with("--"));
         let head = joined(comment.map(without_paper)).replace(" Definitions only.", "");
         let used = text.lines().filter_map(|line| line.strip_prefix("use "));
@@ -136,6 +140,41 @@ impl Part {
                 .take_while(|word| !word.starts_with(['(', '{']));
             line.contains(" : ") && words.any(|word| word == name)
         })
+    }
+}
+
+/// The names that definitions give, and of each whether a record has a part of that name.
+pub fn given(text: &str) -> impl Iterator<Item = (&str, bool)> {
+    let mut record = None;
+    text.lines().flat_map(move |line| {
+        let text = line.trim_start();
+        let indent = line.len() - text.len();
+        if record.is_some_and(|at| !text.is_empty() && indent <= at) {
+            record = None;
+        }
+        let is_field = record.is_some();
+        let names = match text.split_once(' ') {
+            Some((kind @ ("record" | "data"), rest)) if rest.starts_with(char::is_uppercase) => {
+                record = (kind == "record").then_some(indent);
+                rest.split_whitespace().take(1).collect()
+            }
+            Some(("--" | "module", _)) => Vec::new(),
+            _ => kinds(text),
+        };
+        names.into_iter().map(move |name| (name, is_field))
+    })
+}
+
+/// The names that a line says the kind of; what they are told with is none.
+fn kinds(line: &str) -> Vec<&str> {
+    let Some((before, _)) = line.split_once(" : ") else {
+        return Vec::new();
+    };
+    let is_name = |word: &&str| !word.starts_with(['(', '{', '→', '×', '=']);
+    let words: Vec<&str> = before.split_whitespace().collect();
+    match words.iter().all(is_name) {
+        true => words,
+        false => Vec::new(),
     }
 }
 

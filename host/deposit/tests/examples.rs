@@ -3,8 +3,8 @@
 //! An example is indented, and begins with a limit or with settings. Its lines say what is asked; what
 //! comes of it stands behind a comma, or in the lines below, and is made anew here.
 
+use captions::WORKSPACE_BYTES;
 use captions::raw::{self, Buffers, Record, Settings};
-use captions::{WORKSPACE_BYTES, Workspace};
 use std::path::Path;
 
 /// The lines of each example, without their indentation.
@@ -34,16 +34,32 @@ fn number(word: &str) -> u32 {
     word.parse().expect("a number is decimal")
 }
 
-/// Bytes in hexadecimal, so many times where that is said, and then others.
-fn tape(words: &str) -> Vec<u8> {
+/// What words stand for, so many times where that is said, and then others.
+fn repeated<T: Clone>(words: &str, of: impl Fn(&str) -> T) -> Vec<T> {
     let one = |words: &str| {
-        let (bytes, times) = words.split_once(", ").unwrap_or((words, "1 times"));
-        let bytes = bytes.split_whitespace();
-        let bytes: Result<Vec<u8>, _> = bytes.map(|byte| u8::from_str_radix(byte, 16)).collect();
-        let times = number(times.trim_end_matches(" times"));
-        bytes.expect("bytes are hexadecimal").repeat(times as usize)
+        let (words, times) = words.split_once(", ").unwrap_or((words, "1 times"));
+        let things: Vec<T> = words.split_whitespace().map(&of).collect();
+        let times = number(times.trim_end_matches(" times")) as usize;
+        (0..times).flat_map(move |_| things.clone())
     };
     words.split(" then ").flat_map(one).collect()
+}
+
+fn tape(words: &str) -> Vec<u8> {
+    repeated(words, |byte| {
+        u8::from_str_radix(byte, 16).expect("bytes are hexadecimal")
+    })
+}
+
+/// The number behind a word, where an example has it.
+fn told(example: &[&str], word: &str) -> Option<usize> {
+    let lines = behind(example, word);
+    lines.first().map(|line| number(line) as usize)
+}
+
+/// How long the workspace is: as the example says, or else as it has to be.
+fn room(example: &[&str]) -> usize {
+    told(example, "room").unwrap_or(WORKSPACE_BYTES)
 }
 
 fn settings(words: &str) -> Settings {
@@ -70,28 +86,47 @@ fn answer(word: &str, answer: u64) -> String {
     }
 }
 
-fn lines(tape: &[u8], limit: u32) -> String {
-    match captions::wrap(tape, &mut Workspace::new(), limit) {
-        Err(refusal) => format!("refused {} at {}\n", refusal.cause.number(), refusal.place),
-        Ok(lines) => {
-            let listed = lines.iter().map(|line| {
-                let numbers = line.letters.iter().map(|number| format!(" {number}"));
-                format!(
-                    "columns {}, letters{}\n",
-                    line.columns,
-                    numbers.collect::<String>()
-                )
-            });
-            format!("lines {}\n{}", lines.len(), listed.collect::<String>())
-        }
+/// The lines that a call of Wrap leaves in its workspace, and the bytes themselves where they are told.
+fn lines(example: &[&str], limit: u32) -> String {
+    let mut workspace = vec![0; room(example)];
+    let tape = tape(&behind(example, "tape").join(" "));
+    let wrapped = raw::wrap(&tape, &mut workspace, limit);
+    let mut text = answer("lines", wrapped) + "\n";
+    if wrapped >> 32 != 0 {
+        return text;
     }
+    let two = |at: usize| usize::from(u16::from_be_bytes([workspace[at], workspace[at + 1]]));
+    let mut at = 4 * wrapped as usize;
+    for line in 0..wrapped as usize {
+        let (letters, columns) = (two(4 * line), two(4 * line + 2));
+        let numbers = (0..letters).map(|letter| format!(" {}", two(at + 2 * letter)));
+        text += &format!(
+            "columns {columns}, letters{}\n",
+            numbers.collect::<String>()
+        );
+        at += 2 * letters;
+    }
+    if behind(example, "bytes").is_empty() {
+        return text;
+    }
+    let bytes = workspace[..at].iter().map(|byte| format!(" {byte:02X}"));
+    text + &format!("bytes{}\n", bytes.collect::<String>())
 }
+
+/// More counters are written as tapes are.
+const MANY: usize = 32;
 
 /// What a record holds before Open writes it.
 const ANY: Record = Record {
     stripe_height: 7,
     counters: [7; 64],
 };
+
+/// How many bytes a picture has; refused settings may have more than can be counted.
+fn picture_bytes(settings: &Settings) -> usize {
+    let [width, height] = [settings.width, settings.height].map(|side| side as usize);
+    width.saturating_mul(height).saturating_mul(4)
+}
 
 /// A picture that is drawn whole, or in stripes; its buffer held other bytes before.
 struct Drawing {
@@ -106,19 +141,21 @@ impl Drawing {
     /// Workspace and buffer are as long as the example says, or else as they have to be.
     fn new(example: &[&str]) -> Drawing {
         let settings = settings(behind(example, "settings")[0]);
-        let [width, height] = [settings.width, settings.height].map(|side| side as usize);
-        let told = |word: &str| {
-            behind(example, word)
-                .first()
-                .map(|line| number(line) as usize)
-        };
         Drawing {
             settings,
             tape: tape(&behind(example, "tape").join(" ")),
-            room: told("room").unwrap_or(WORKSPACE_BYTES),
-            picture: vec![0xaa; told("buffer").unwrap_or(width * height * 4)],
+            room: room(example),
+            picture: vec![
+                0xaa;
+                told(example, "buffer").unwrap_or_else(|| picture_bytes(&settings))
+            ],
             record: ANY,
         }
+    }
+
+    /// How many bytes the picture has, as far as its buffer has them.
+    fn size(&self) -> usize {
+        self.picture.len().min(picture_bytes(&self.settings))
     }
 
     fn call(&mut self, call: impl FnOnce(&Settings, Buffers, &mut Record) -> u64) -> u64 {
@@ -142,10 +179,9 @@ impl Drawing {
         format!("stripes {height}, {}\n", answer("strokes", opened))
     }
 
-    /// Begins with a record that no Open gave, and a cleared picture.
+    /// Begins with a record that no Open gave.
     fn set_record(&mut self, words: &str) -> String {
-        self.picture.fill(0);
-        let mut numbers = words.split(' ').map(number);
+        let mut numbers = repeated(words, number).into_iter();
         self.record = Record::new(numbers.next().expect("a record has a stripe height"));
         let places = self.record.counters.iter_mut().zip(numbers);
         places.for_each(|(place, number)| *place = number);
@@ -153,43 +189,77 @@ impl Drawing {
     }
 
     fn work(&mut self, words: &str) -> String {
-        let (stripe, budget) = words
+        let (asked, room) = words.split_once(" room ").unwrap_or((words, ""));
+        let (stripe, budget) = asked
             .split_once(' ')
             .expect("a Work has a stripe and a budget");
         let [stripe, budget] = [stripe, budget].map(number);
+        let before = self.room;
+        if !room.is_empty() {
+            self.room = number(room) as usize;
+        }
         let worked = self
             .call(|settings, buffers, record| raw::work(settings, buffers, record, stripe, budget));
+        self.room = before;
         format!("work {words}, {}\n", answer("done", worked))
     }
 
-    /// The counters of the stripes that there are.
+    /// The counters of the stripes that there are, and others up to the last that is not 0.
     fn counters(&self) -> String {
-        let stripes = self
-            .settings
-            .height
-            .div_ceil(self.record.stripe_height.max(1));
-        let counters = self.record.counters.iter().take(stripes as usize);
-        let listed: String = counters.map(|counter| format!(" {counter}")).collect();
+        let Record {
+            stripe_height,
+            counters,
+        } = &self.record;
+        let stripes = match stripe_height {
+            0 => 0,
+            rows => counters
+                .len()
+                .min(self.settings.height.div_ceil(*rows) as usize),
+        };
+        let last = counters.iter().rposition(|counter| *counter != 0);
+        let shown = &counters[..stripes.max(last.map_or(0, |last| last + 1))];
+        if shown.len() > MANY {
+            let runs = shown.chunk_by(|a, b| a == b);
+            let runs = runs.map(|run| match run {
+                [one] => one.to_string(),
+                run => format!("{}, {} times", run[0], run.len()),
+            });
+            return format!("counters {}\n", runs.collect::<Vec<_>>().join(" then "));
+        }
+        let listed: String = shown.iter().map(|counter| format!(" {counter}")).collect();
         format!("counters{listed}\n")
     }
 
-    /// The sum of each byte times its place, counted from 1.
-    fn check(&self) -> String {
-        let bytes = (1..).zip(&self.picture);
-        let sum: u64 = bytes.map(|(place, byte)| place * u64::from(*byte)).sum();
-        format!("check, {sum}\n")
+    /// The sum of each of the picture's bytes times its number, counted from 1.
+    fn sum(&self) -> String {
+        let bytes = (1..).zip(&self.picture[..self.size()]);
+        let sum: u64 = bytes.map(|(number, byte)| number * u64::from(*byte)).sum();
+        format!("sum {sum}\n")
     }
 
-    /// A sign for each pixel; the pixel itself where it has none.
+    /// The record's stripe height.
+    fn height(&self) -> String {
+        format!("height {}\n", self.record.stripe_height)
+    }
+
+    /// The bytes after the picture.
+    fn rest(&self) -> String {
+        let bytes = self.picture[self.size()..].iter();
+        let listed: String = bytes.map(|byte| format!(" {byte:02X}")).collect();
+        format!("rest{listed}\n")
+    }
+
+    /// A sign for each pixel.
     fn shown(&self, signs: &[&str]) -> String {
         let words: Vec<&str> = signs.iter().flat_map(|line| line.split(' ')).collect();
         let sign = |pixel: &[u8]| {
             let bytes = pixel.iter().map(|byte| format!("{byte:02X}"));
             let pixel: String = bytes.collect();
             let known = words.chunks(2).find(|pair| pair[1] == pixel);
-            known.map_or(pixel.clone(), |pair| pair[0].to_owned())
+            let known = known.unwrap_or_else(|| panic!("{words:?} have none for {pixel}"));
+            known[0]
         };
-        let rows = self.picture.chunks(4 * self.settings.width as usize);
+        let rows = self.picture[..self.size()].chunks(4 * self.settings.width as usize);
         let shown = rows.map(|row| row.chunks(4).map(sign).collect::<String>() + "\n");
         shown.collect()
     }
@@ -219,8 +289,15 @@ fn drawn(example: &[&str]) -> String {
     if !works.is_empty() {
         text += &drawing.counters();
     }
-    if example.iter().any(|line| question(line) == "check") {
-        text += &drawing.check();
+    let is_told = |word| !behind(example, word).is_empty();
+    if is_told("height") {
+        text += &drawing.height();
+    }
+    if is_told("sum") {
+        text += &drawing.sum();
+    }
+    if is_told("rest") {
+        text += &drawing.rest();
     }
     match &behind(example, "signs")[..] {
         [] => text,
@@ -235,7 +312,7 @@ fn answered(example: &[&str]) -> String {
     let lines_asked = example.iter().filter(is_asked);
     let text = lines_asked.fold(String::new(), |text, line| text + line + "\n");
     text + &match behind(example, "limit")[..] {
-        [limit] => lines(&tape(&behind(example, "tape").join(" ")), number(limit)),
+        [limit] => lines(example, number(limit)),
         _ => drawn(example),
     }
 }
@@ -243,13 +320,13 @@ fn answered(example: &[&str]) -> String {
 #[test]
 fn examples_are_what_the_library_gives() {
     let file = Path::new(env!("CARGO_MANIFEST_DIR")).join("../../deposit/examples.txt");
-    let text = std::fs::read_to_string(file).expect("the examples are there");
-    let examples = examples(&text);
-    assert!(
-        examples.len() >= 90,
-        "only {} examples were found",
-        examples.len()
-    );
+    let whole = std::fs::read_to_string(file).expect("the examples are there");
+    let (_, text) = whole
+        .split_once("\nLines\n")
+        .expect("they begin behind how they are written");
+    let examples = examples(text);
+    let said = format!("There are {} examples.", examples.len());
+    assert!(whole.contains(&said), "it should say: {said}");
     for example in examples {
         let there = example
             .iter()

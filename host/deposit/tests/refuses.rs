@@ -81,68 +81,11 @@ fn a_copy_without_faults_is_as_committed() {
 }
 
 #[test]
-fn another_definition() {
-    let file = "crates/font/specs/Font.antt";
-    let said = said("changed", file, "cellW = 8", "cellW = 9");
-    assert!(
-        said.contains("stale") && said.ends_with("cellW = 9"),
-        "{said}"
-    );
-}
-
-#[test]
-fn another_struct() {
-    let file = "crates/tape/src/lib.rt";
-    let said = said(
-        "struct",
-        file,
-        "    pub italic: bool,",
-        "    pub oblique: bool,",
-    );
-    assert!(said.ends_with("oblique : Bool"), "{said}");
-}
-
-#[test]
 fn a_text_that_ends_too_soon() {
     let copy = Copy::new("short");
     copy.write(deposit::FILE, copy.read(deposit::FILE).trim_end());
     let said = copy.fault();
     assert!(said.contains("Its end differs"), "{said}");
-}
-
-#[test]
-fn a_sign_of_the_library_that_the_notation_leaves_out() {
-    let said = said(
-        "notation",
-        "deposit/notation.txt",
-        "bitOr a b",
-        "either a b",
-    );
-    assert!(said.contains("takes the name bitOr"), "{said}");
-}
-
-#[test]
-fn a_name_that_no_earlier_part_has() {
-    let file = "crates/font/specs/Slant.antt";
-    let said = said(
-        "name",
-        file,
-        "cellH, bearingY, tabulate}",
-        "cellH, bearingY, tabulate, slope}",
-    );
-    assert!(said.contains("takes the name slope"), "{said}");
-}
-
-#[test]
-fn a_name_from_a_part_that_comes_later() {
-    let file = "crates/tape/specs/Outcome.antt";
-    let old = "use Prim.Native.Nat.{ℕ, zero, suc}\n";
-    let new = "use Prim.Native.Nat.{ℕ, zero, suc}\nuse Rattle.tape.specs.Runs.{Run}\n";
-    let said = said("later", file, old, new);
-    assert!(
-        said.contains("Runs, which does not stand before it"),
-        "{said}"
-    );
 }
 
 #[test]
@@ -156,21 +99,67 @@ fn a_file_of_definitions_that_is_in_no_chapter() {
     assert!(said.contains("Hyphens are in no chapter"), "{said}");
 }
 
-#[test]
-fn a_comment_that_leads_out_of_the_text() {
-    let file = "crates/font/specs/Blend.antt";
-    let said = said(
-        "outside",
-        file,
-        "-- the same, and",
-        "-- as proofs/Pixel has it, and",
-    );
-    assert!(said.contains("`proofs/`"), "{said}");
+/// Makes a test of each fault that one replacement makes: the file, what stands there and what then
+/// does, and what is said of it.
+macro_rules! faults {
+    ($(
+        $test:ident: $file:literal, $old:literal => $new:expr, $($how:ident($words:literal)),+;
+    )+) => {$(
+        #[test]
+        fn $test() {
+            let said = said(stringify!($test), $file, $old, $new);
+            $(assert!(said.$how($words), "{said}");)+
+        }
+    )+};
 }
 
-#[test]
-fn a_sign_that_the_notation_does_not_name() {
-    let file = "crates/font/specs/Blend.antt";
-    let said = said("sign", file, "-- the same, and", "-- ∀ the same, and");
-    assert!(said.contains("the sign ∀ (U+2200)"), "{said}");
+faults! {
+    another_definition: "crates/font/specs/Font.antt",
+        "cellW = 8" => "cellW = 9",
+        contains("stale"), ends_with("cellW = 9");
+
+    another_struct: "crates/tape/src/lib.rt",
+        "    pub italic: bool," => "    pub oblique: bool,",
+        ends_with("oblique : Bool");
+
+    a_sign_of_the_library_that_the_notation_leaves_out: "deposit/notation.txt",
+        "bitOr a b" => "either a b",
+        contains("takes the name bitOr");
+
+    a_name_that_no_earlier_part_has: "crates/font/specs/Slant.antt",
+        "cellH, bearingY, tabulate}" => "cellH, bearingY, tabulate, slope}",
+        contains("takes the name slope");
+
+    a_name_from_a_part_that_comes_later: "crates/tape/specs/Outcome.antt",
+        "use Prim.Native.Nat.{ℕ, zero, suc}\n" =>
+            "use Prim.Native.Nat.{ℕ, zero, suc}\nuse Rattle.tape.specs.Runs.{Run}\n",
+        contains("Runs, which does not stand before it");
+
+    a_comment_that_leads_out_of_the_text: "crates/font/specs/Blend.antt",
+        "-- the same, and" => "-- as proofs/PixelBlend has it, and",
+        contains("`proofs/`");
+
+    a_sign_that_the_notation_does_not_name: "crates/font/specs/Blend.antt",
+        "-- the same, and" => "-- ∀ the same, and",
+        contains("the sign ∀ (U+2200)");
+
+    a_name_that_two_parts_give: "crates/wrap/specs/Columns.antt",
+        "isTab : ℕ → Bool" => "isLetter : ℕ → Bool",
+        contains("Command and Columns both give the name isLetter");
+
+    a_name_that_a_definition_and_a_part_of_a_record_have: "crates/wrap/specs/Columns.antt",
+        "isTab : ℕ → Bool" => "italic : ℕ → Bool",
+        contains("Style and Columns both give the name italic");
+
+    a_case_with_the_name_of_another: "crates/tape/specs/Segments.antt",
+        "    lineBreak : Segment" => "    ends : Segment",
+        contains("Command and Segments both give the name ends");
+
+    a_comment_that_is_too_wide: "crates/font/specs/Blend.antt",
+        "-- the same, and" => &format!("-- the same{}, and", " again".repeat(20)),
+        contains("has over 120 characters");
+
+    a_page_that_is_too_wide: "deposit/examples.txt",
+        "Followed by hand\n" => &format!("Followed by hand{}\n", ", step by step".repeat(9)),
+        contains("examples.txt: line 1 has over 120");
 }

@@ -2,7 +2,8 @@
 
 use crate::compositor::{self, Compositor};
 use crate::font::BitmapFont;
-use crate::{Line, Run, Settings};
+use crate::settings::Settings;
+use crate::{Line, Run, Stroke};
 use oxideav_core::{Segment, SubtitleCue};
 use std::ops::Range;
 
@@ -26,24 +27,12 @@ impl Original {
 
     /// Draws one glyph into a picture of `w` by `h` pixels, upright or slanted as the original's
     /// compositor slants it.
-    #[expect(
-        clippy::too_many_arguments,
-        reason = "they are those of the function called"
-    )]
-    pub fn draw_glyph_sheared(
-        &self,
-        bold: bool,
-        ch: char,
-        dst: &mut [u8],
-        w: u32,
-        h: u32,
-        x: i32,
-        y: i32,
-        color: [u8; 4],
-        italic: bool,
-    ) {
-        let font = self.font(bold);
-        let shear = if italic {
+    pub fn draw_glyph_sheared(&self, stroke: &Stroke, dst: &mut [u8], w: u32, h: u32) {
+        let Stroke {
+            ch, color, x, y, ..
+        } = *stroke;
+        let font = self.font(stroke.bold);
+        let shear = if stroke.italic {
             font.cell_w as f32 / 4.0
         } else {
             0.0
@@ -91,7 +80,7 @@ impl Original {
     }
 
     /// Draws a cue, with no face, into a buffer that begins with the picture.
-    pub fn render_into(&self, settings: Settings, cue: &SubtitleCue, dst: &mut [u8]) {
+    pub fn render_into(&self, settings: &Settings, cue: &SubtitleCue, dst: &mut [u8]) {
         compositor(settings).render_into(cue, dst);
     }
 
@@ -99,7 +88,7 @@ impl Original {
     /// Answers how many there are in all.
     pub fn render_strokes(
         &self,
-        settings: Settings,
+        settings: &Settings,
         cue: &SubtitleCue,
         dst: &mut [u8],
         strokes: usize,
@@ -116,7 +105,7 @@ impl Original {
     /// there are in all.
     pub fn draw_strokes(
         &self,
-        settings: Settings,
+        settings: &Settings,
         cue: &SubtitleCue,
         dst: &mut [u8],
         window: Range<usize>,
@@ -125,7 +114,7 @@ impl Original {
     }
 }
 
-fn compositor(settings: Settings) -> Compositor {
+fn compositor(settings: &Settings) -> Compositor {
     let mut compositor = Compositor::new(settings.width, settings.height);
     compositor.default_color = settings.default_color;
     compositor.outline_color = settings.outline_color;

@@ -17,6 +17,8 @@ mod missing;
 #[cfg(not(original))]
 pub use missing::Original;
 
+pub mod settings;
+
 /// The folder where the build looked for them.
 pub const LOOKED_IN: &str = env!("ORIGINAL_LOOKED_IN");
 
@@ -25,16 +27,15 @@ pub fn original() -> Option<Original> {
     Original::find()
 }
 
-/// What the original's compositor is told. How lines are aligned the cue says.
-#[derive(Clone, Copy, Debug, PartialEq)]
-pub struct Settings {
-    pub width: u32,
-    pub height: u32,
-    pub default_color: [u8; 4],
-    pub outline_color: [u8; 4],
-    pub line_height: u32,
-    pub bottom_margin: u32,
-    pub outline: u32,
+/// A letter drawn once, and where: as the original's font is told.
+#[derive(Clone, Copy, Debug)]
+pub struct Stroke {
+    pub ch: char,
+    pub bold: bool,
+    pub italic: bool,
+    pub color: [u8; 4],
+    pub x: i32,
+    pub y: i32,
 }
 
 /// A run of letters in one style, as the original flattens segments to.

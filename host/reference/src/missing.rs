@@ -1,6 +1,7 @@
 //! What stands in the original's place where it is missing: a type that has no value.
 
-use crate::{Line, Run, Settings};
+use crate::settings::Settings;
+use crate::{Line, Run, Stroke};
 use oxideav_core::{Segment, SubtitleCue};
 use std::ops::Range;
 
@@ -13,22 +14,7 @@ impl Original {
     }
 
     /// Draws one glyph, where the original is at hand.
-    #[expect(
-        clippy::too_many_arguments,
-        reason = "they are those of the original's function"
-    )]
-    pub fn draw_glyph_sheared(
-        &self,
-        _bold: bool,
-        _ch: char,
-        _dst: &mut [u8],
-        _w: u32,
-        _h: u32,
-        _x: i32,
-        _y: i32,
-        _color: [u8; 4],
-        _italic: bool,
-    ) {
+    pub fn draw_glyph_sheared(&self, _stroke: &Stroke, _dst: &mut [u8], _w: u32, _h: u32) {
         match *self {}
     }
 
@@ -53,14 +39,14 @@ impl Original {
     }
 
     /// Draws a cue, where the original is at hand.
-    pub fn render_into(&self, _settings: Settings, _cue: &SubtitleCue, _dst: &mut [u8]) {
+    pub fn render_into(&self, _settings: &Settings, _cue: &SubtitleCue, _dst: &mut [u8]) {
         match *self {}
     }
 
     /// Draws a cue's first strokes, where the original is at hand.
     pub fn render_strokes(
         &self,
-        _settings: Settings,
+        _settings: &Settings,
         _cue: &SubtitleCue,
         _dst: &mut [u8],
         _strokes: usize,
@@ -71,7 +57,7 @@ impl Original {
     /// Draws some of a cue's strokes, where the original is at hand.
     pub fn draw_strokes(
         &self,
-        _settings: Settings,
+        _settings: &Settings,
         _cue: &SubtitleCue,
         _dst: &mut [u8],
         _window: Range<usize>,

@@ -29,7 +29,7 @@ same-length-2 : tie.Need-same-length-2
 same-length-2 c = search needs
 
 returns : tie.Need-returns
-returns c = record { answer = _; calls = drawn (c .before .before .before .before .before); packs = c .packed .ensures }
+returns c = record { answer = _; does = drawn (c .before .before .before .before .before); packs = c .packed .ensures }
 
 pub captions-draw-spec : {M : Type 1} → statement M
 captions-draw-spec =

@@ -37,7 +37,7 @@ returns c =
     let words = c .before in
     record {
       answer = words .before .before .before .before .before .before .«open» .result .answer;
-      calls = rw (words .words-of .ensures) (opened (words .before .before .before .before .before .before));
+      does = rw (words .words-of .ensures) (opened (words .before .before .before .before .before .before));
       packs = c .packed .ensures;
     }
 

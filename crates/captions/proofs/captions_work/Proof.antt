@@ -41,7 +41,7 @@ returns c =
     let words = c .before in
     record {
       answer = words .before .before .before .before .before .before .work .result .answer;
-      calls = rw (words .words-of .ensures) (worked (words .before .before .before .before .before .before));
+      does = rw (words .words-of .ensures) (worked (words .before .before .before .before .before .before));
       packs = c .packed .ensures;
     }
 

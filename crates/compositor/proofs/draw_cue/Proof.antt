@@ -3,7 +3,7 @@ use Prim.Native.Nat.{ℕ}
 use native.Mathlib.Omega.{arith}
 use Rattle.compositor.specs.Picture.{pictureAfter}
 use Rattle.compositor.specs.Read.{strokesIn}
-use Rattle.compositor.proofs.Cleared.{picture-drawn}
+use Rattle.compositor.proofs.ClearedPicture.{picture-drawn}
 use borrow.Author.Needs.{needs}
 use Rattle.compositor.proofs.draw_cue.Statement.{statement}
 use Rattle.compositor.proofs.draw_cue.Tie as tie

@@ -6,11 +6,11 @@ use Rattle.tape.specs.Style.{defaultWith}
 use Rattle.tape.specs.TapeRead.{TapeRead}
 use Rattle.tape.proofs.Calls.{accepted-is, refused-is}
 use Rattle.tape.proofs.Answers.{letters-fit, read-is}
-use Rattle.wrap.proofs.Whole.{letters-held}
+use Rattle.wrap.proofs.CallWrap.{letters-held}
 use Rattle.compositor.specs.Outline.{outlineOf}
 use Rattle.compositor.specs.Draw.{tapeStrokes}
-use Rattle.compositor.specs.Strokes.{drawing}
-use Rattle.compositor.proofs.Whole.{total-small, cue-laid}
+use Rattle.compositor.specs.Order.{drawing}
+use Rattle.compositor.proofs.WrappedLines.{total-small, cue-laid}
 use borrow.Author.Needs.{needs}
 use Rattle.compositor.proofs.lay_cue.Statement.{statement}
 use Rattle.compositor.proofs.lay_cue.Tie as tie

@@ -2,7 +2,7 @@ use mathlib.Core.Path.{_≡_, refl, sym, subst}
 use mathlib.Core.List.{List}
 use native.Mathlib.Omega.{arith}
 use Rattle.tape.specs.Outcome.{Outcome}
-use Rattle.compositor.specs.Strokes.{Stroke}
+use Rattle.compositor.specs.Order.{Stroke}
 use Rattle.compositor.specs.Ready.{CueRead}
 use Rattle.compositor.proofs.Checks.{stops, goes-on}
 use borrow.Author.Needs.{needs}

@@ -1,6 +1,6 @@
 use mathlib.Core.Path.{refl}
 use Rattle.tape.proofs.Calls.{refuses, accepts}
-use Rattle.compositor.proofs.Admitted.{cue-range, cue-fits}
+use Rattle.compositor.proofs.AcceptedCalls.{cue-range, cue-fits}
 use borrow.Author.Needs.{needs}
 use Rattle.compositor.proofs.render_into.Statement.{statement}
 use Rattle.compositor.proofs.render_into.Tie as tie

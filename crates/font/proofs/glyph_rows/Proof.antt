@@ -7,7 +7,7 @@ use lib.ListN.{length, take, getD, length-set}
 use borrow.Author.Needs.{needs}
 use borrow.Author.Tests.{lt-ltb, le-ltb}
 use Rattle.font.specs.Font.{tabulate}
-use Rattle.font.proofs.Fill.{fill-step, fill-end}
+use Rattle.font.proofs.ArrayFill.{fill-step, fill-end}
 use Rattle.font.proofs.glyph_rows.Statement.{statement}
 use Rattle.font.proofs.glyph_rows.Tie as tie
 use Rattle.font.proofs.glyph_rows.Reads as reads

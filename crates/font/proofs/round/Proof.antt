@@ -1,4 +1,4 @@
--- `round` meets its contract.
+-- `round` meets its contract, in each of the 32 cases of `Moved`.
 use mathlib.Core.Bool.{true, false}
 use native.Mathlib.Omega.{arith}
 use lib.Ieee.{ofBits, ofInt}

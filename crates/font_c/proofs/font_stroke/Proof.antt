@@ -8,7 +8,7 @@ use borrow.Author.Tests.{not-true, not-false}
 use Rattle.font.specs.declared.paint.Spot.{Spot}
 use Rattle.font.specs.Font.{tableOf, glyphRows}
 use Rattle.font.specs.Slant.{rowOffsets}
-use Rattle.font.specs.Stroke.{strokeRow, eachRow}
+use Rattle.font.specs.Paint.{strokeRow, eachRow}
 use Rattle.font.specs.Shear.{Shear, penRow}
 use Rattle.font.proofs.Rounding.{leans-back, shear-of}
 use Rattle.font_c.specs.Exported.{admitted, stroked}

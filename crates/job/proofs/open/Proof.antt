@@ -5,7 +5,7 @@ use native.Mathlib.Omega.{arith}
 use lib.ListN.{length, drop, replicate}
 use Rattle.tape.proofs.Calls.{refuses, accepts}
 use Rattle.compositor.specs.Ready.{CueRead}
-use Rattle.compositor.proofs.Admitted.{cue-range, cue-fits}
+use Rattle.compositor.proofs.AcceptedCalls.{cue-range, cue-fits}
 use Rattle.job.specs.declared.JobRecord.{JobRecord}
 use Rattle.job.specs.Work.{openCall}
 use borrow.Author.Needs.{needs}

@@ -4,7 +4,7 @@ use native.Mathlib.Omega.{arith}
 use Rattle.compositor.specs.Ready.{mostStrokes}
 use Rattle.job.specs.Stripes.{divisionOf, counterOf, withCounter}
 use Rattle.job.proofs.Division.{some-rows, stripe-low, first-there}
-use Rattle.job.proofs.Jobs.{did-step}
+use Rattle.job.proofs.CallWork.{did-step}
 use borrow.Author.Needs.{needs}
 use Rattle.job.proofs.step.Statement.{statement}
 use Rattle.job.proofs.step.Tie as tie

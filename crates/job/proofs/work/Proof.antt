@@ -1,10 +1,10 @@
 use mathlib.Core.Path.{_≡_}
 use lib.ListN.{length}
 use Rattle.compositor.specs.Ready.{CueRead}
-use Rattle.compositor.proofs.Admitted.{cue-range, cue-fits, cue-own}
+use Rattle.compositor.proofs.AcceptedCalls.{cue-range, cue-fits, cue-extra}
 use Rattle.job.specs.Stripes.{divisionOf}
 use Rattle.job.specs.Work.{openCall}
-use Rattle.job.proofs.Jobs.{not-worked, worked-on}
+use Rattle.job.proofs.CallWork.{not-worked, worked-on}
 use borrow.Author.Needs.{needs}
 use Rattle.job.proofs.work.Statement.{statement}
 use Rattle.job.proofs.work.Tie as tie
@@ -33,7 +33,7 @@ work-laid-requires c κs =
     record {
       range = cue-range _ _ _ _ _ (r .means);
       fits = cue-fits _ _ _ _ _ (r .means);
-      stripes = cue-own _ _ _ _ _ (r .means);
+      stripes = cue-extra _ _ _ _ _ (r .means);
       lined = r .lined;
       counts = r .counts;
       few = r .few;

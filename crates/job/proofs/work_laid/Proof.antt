@@ -7,7 +7,7 @@ use lib.ListN.{length}
 use Rattle.compositor.specs.Read.{strokesIn}
 use Rattle.job.specs.Stripes.{hasStripe, divisionOf, counterOf, countersUnsound}
 use Rattle.job.proofs.Division.{stripe-low, counter-small}
-use Rattle.job.proofs.Jobs.{unsound, no-stripe, did-work}
+use Rattle.job.proofs.CallWork.{unsound, no-stripe, did-work}
 use borrow.Author.Needs.{needs}
 use Rattle.job.proofs.work_laid.Statement.{statement}
 use Rattle.job.proofs.work_laid.Tie as tie

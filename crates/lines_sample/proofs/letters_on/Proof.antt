@@ -1,10 +1,11 @@
 use Prim.Native.Nat.{_*_, _-_, _≤_}
 use native.Mathlib.Omega.{arith}
+use Rattle.report.specs.Bounds.{twoByteNumbers}
 use Rattle.lines_sample.proofs.letters_on.Statement.{statement}
 use Rattle.lines_sample.proofs.letters_on.Tie as tie
 
 abbrev Inv-loop : tie.InvT-loop
-Inv-loop table lines letters₀ line₀ letters line = (line ≤ lines) × (letters ≤ 65536 * line)
+Inv-loop table lines letters₀ line₀ letters line = (line ≤ lines) × (letters ≤ twoByteNumbers * line)
 
 abbrev μ-loop : tie.MeasureT-loop
 μ-loop table lines letters₀ line₀ letters line = lines - line

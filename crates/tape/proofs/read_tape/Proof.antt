@@ -3,7 +3,7 @@ use mathlib.Core.Bool.{false}
 use borrow.Author.Needs.{needs}
 use Rattle.tape.specs.declared.Step.{Step}
 use Rattle.tape.specs.Reading.{ListRead}
-use Rattle.tape.proofs.Whole.{start, too-long, too-small, tape-refused, tape-accepted}
+use Rattle.tape.proofs.CallRead.{start, too-long, too-small, tape-refused, tape-accepted}
 use Rattle.tape.proofs.read_tape.Statement.{statement}
 use Rattle.tape.proofs.read_tape.Tie as tie
 

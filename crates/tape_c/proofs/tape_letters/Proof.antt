@@ -24,7 +24,7 @@ same-length : tie.Need-same-length
 same-length c = search needs
 
 returns : tie.Need-returns
-returns c = record { answer = _; calls = read (c .before .before .before); packs = c .packed .ensures }
+returns c = record { answer = _; does = read (c .before .before .before); packs = c .packed .ensures }
 
 pub tape-letters-spec : {M : Type 1} → statement M
 tape-letters-spec =

@@ -1,5 +1,5 @@
 use native.Mathlib.Omega.{arith}
-use Rattle.wrap.proofs.Whole.{brought}
+use Rattle.wrap.proofs.CallWrap.{brought}
 use borrow.Author.Needs.{needs}
 use Rattle.wrap.proofs.bring_lines.Statement.{statement}
 use Rattle.wrap.proofs.bring_lines.Tie as tie

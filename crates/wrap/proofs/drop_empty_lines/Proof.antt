@@ -9,7 +9,7 @@ use Rattle.tape.specs.Runs.{Letter}
 use Rattle.wrap.specs.Lines.{Line, withoutLast, isEmptyLine}
 use Rattle.wrap.specs.Wrap.{lineTable}
 use Rattle.wrap.specs.Laid.{tableFrom}
-use Rattle.wrap.proofs.Steps.{lines-stop, lines-go}
+use Rattle.wrap.proofs.LoopTurns.{lines-stop, lines-go}
 use Rattle.wrap.proofs.drop_empty_lines.Statement.{statement}
 use Rattle.wrap.proofs.drop_empty_lines.Tie as tie
 

@@ -4,7 +4,7 @@ use Prim.Native.Nat.{ℕ, _+_, _-_, _≤_}
 use native.Mathlib.Omega.{arith}
 use lib.ListN.{length, getD, set, length-set}
 use lib.Seq.{sets, slice}
-use Rattle.wrap.proofs.Bytes.{move-none, move-more}
+use Rattle.wrap.proofs.TableBytes.{move-none, move-more}
 use Rattle.wrap.proofs.move_down.Statement.{statement}
 use Rattle.wrap.proofs.move_down.Tie as tie
 

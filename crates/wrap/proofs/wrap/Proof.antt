@@ -6,7 +6,7 @@ use Rattle.tape.specs.Style.{defaultWith}
 use Rattle.tape.specs.TapeRead.{TapeRead}
 use Rattle.tape.proofs.Calls.{accepted-is, refused-is}
 use Rattle.tape.proofs.Answers.{letters-fit}
-use Rattle.wrap.proofs.Whole.{too-low, too-high, letters-held, wrapped, tape-refused}
+use Rattle.wrap.proofs.CallWrap.{too-low, too-high, letters-held, wrapped, tape-refused}
 use borrow.Author.Needs.{needs}
 use Rattle.wrap.proofs.wrap.Statement.{statement}
 use Rattle.wrap.proofs.wrap.Tie as tie

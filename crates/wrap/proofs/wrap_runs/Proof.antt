@@ -1,5 +1,5 @@
 use native.Mathlib.Omega.{arith}
-use Rattle.wrap.proofs.Whole.{laid}
+use Rattle.wrap.proofs.CallWrap.{laid}
 use borrow.Author.Needs.{needs}
 use Rattle.wrap.proofs.wrap_runs.Statement.{statement}
 use Rattle.wrap.proofs.wrap_runs.Tie as tie

@@ -34,25 +34,19 @@ fn breaks_at_the_columns_asked_for() {
 
 #[test]
 fn writes_the_letters_too() {
-    assert_eq!(
-        lines(&["--text"], EXAMPLE),
-        "lines 3\n0 4 4 ABCD\n1 3 3 E F\n2 1 1 G\n"
-    );
+    let due = "lines 3\n0 4 4 ABCD\n1 3 3 E F\n2 1 1 G\n";
+    assert_eq!(lines(&["--text"], EXAMPLE), due);
     // Breaks and what a voice adds have numbers too, and a blank line has no letters.
     let tape = b"\x05\x06\x09\x02V\x00\x02a\x02b\x00\x00\x05\x05\x03\x20\xac";
-    assert_eq!(
-        lines(&["--text", "--columns", "9"], tape),
-        "lines 4\n0 0 0 \n1 5 5 V: ab\n2 0 0 \n3 1 1 €\n"
-    );
+    let due = "lines 4\n0 0 0 \n1 5 5 V: ab\n2 0 0 \n3 1 1 €\n";
+    assert_eq!(lines(&["--text", "--columns", "9"], tape), due);
 }
 
 #[test]
 fn writes_controls_as_escapes() {
     let tape = b"\x02A\x02\x09\x02B\x02\x01\x02\\\x02\x85\x02'\x02\x0d\x03\x03\x01\x02\x00";
-    assert_eq!(
-        lines(&["--columns", "20", "--text"], tape),
-        "lines 1\n0 10 6 A\\tB\\u{1}\\\\\\u{85}'\\r\u{301}\\u{0}\n"
-    );
+    let due = "lines 1\n0 10 6 A\\tB\\u{1}\\\\\\u{85}'\\r\u{301}\\u{0}\n";
+    assert_eq!(lines(&["--columns", "20", "--text"], tape), due);
 }
 
 #[test]
@@ -73,4 +67,29 @@ fn says_the_range_of_the_columns() {
         // The columns come before the tape.
         run(&["lines", "--columns", columns], b"\x06").failed(1, "refused 8 0\n", &message);
     }
+}
+
+#[test]
+fn help_shows_where_burn_breaks_elsewhere() {
+    let help = lines(&["--help"], b"");
+    let help = help.split_whitespace().collect::<Vec<&str>>().join(" ");
+    for said in [
+        "the tape 02 58 02 20 02 41 08 FF FF FF 02 42 00 at 3 columns gives X and AB here",
+        "with the default color 00FF00FF and as many columns, draws X A and B",
+    ] {
+        assert!(help.contains(said), "{said}");
+    }
+    // And so it is. Three columns are 24 pixels, and the other tapes have the breaks in them.
+    let tape = b"\x02X\x02 \x02A\x08\xff\xff\xff\x02B\x00";
+    let here = lines(&["--columns", "3", "--text"], tape);
+    assert_eq!(here, "lines 2\n0 1 1 X\n1 2 2 AB\n");
+    let burned = |color: &str, tape: &[u8]| {
+        let size = ["burn", "--width", "24", "--height", "96"];
+        run(&[&size[..], &["--default-color", color]].concat(), tape).done()
+    };
+    let broken_here = b"\x02X\x05\x02A\x08\xff\xff\xff\x02B\x00";
+    assert!(burned("FFFFFFFF", tape) == burned("FFFFFFFF", broken_here));
+    let broken_elsewhere = b"\x02X\x02 \x02A\x05\x08\xff\xff\xff\x02B\x00";
+    assert!(burned("00FF00FF", tape) == burned("00FF00FF", broken_elsewhere));
+    assert!(burned("00FF00FF", tape) != burned("00FF00FF", broken_here));
 }

@@ -1,6 +1,7 @@
 //! The command `captions`, run as a user runs it.
 
 mod burn;
+mod keep;
 mod lines;
 mod run;
 mod show;

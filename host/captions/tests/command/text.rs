@@ -5,9 +5,16 @@ use captions::{Workspace, wrap};
 
 const FULL: &str = "a cue has at most 4096 letters, breaks counted";
 
+/// Holds the tape of each of some words to what is due.
+fn writes(cases: &[(&str, &[u8])]) {
+    for (words, tape) in cases {
+        assert_eq!(run(&["text"], words.as_bytes()).done(), *tape, "{words:?}");
+    }
+}
+
 #[test]
 fn writes_each_letter_shortest() {
-    let cases: [(&str, &[u8]); 12] = [
+    writes(&[
         ("", b""),
         ("A", b"\x02A"),
         ("\0\t\x1b", b"\x02\x00\x02\x09\x02\x1b"),
@@ -20,15 +27,12 @@ fn writes_each_letter_shortest() {
         ("\u{10ffff}", b"\x04\x10\xff\xff"),
         ("\u{2028}\u{85}\u{b}", b"\x03\x20\x28\x02\x85\x02\x0b"),
         ("A€😀é", b"\x02A\x03\x20\xac\x04\x01\xf6\x00\x02\xe9"),
-    ];
-    for (words, tape) in cases {
-        assert_eq!(run(&["text"], words.as_bytes()).done(), tape, "{words:?}");
-    }
+    ]);
 }
 
 #[test]
 fn writes_newlines_as_breaks() {
-    let cases: [(&str, &[u8]); 9] = [
+    writes(&[
         ("\n", b"\x05"),
         ("a\nb\n", b"\x02a\x05\x02b\x05"),
         ("a\r\nb", b"\x02a\x05\x02b"),
@@ -39,23 +43,17 @@ fn writes_newlines_as_breaks() {
         // U+020D's command ends in the bytes of a CR's.
         ("\u{20d}\n", b"\x03\x02\x0d\x05"),
         ("\r\n\r\n", b"\x05\x05"),
-    ];
-    for (words, tape) in cases {
-        assert_eq!(run(&["text"], words.as_bytes()).done(), tape, "{words:?}");
-    }
+    ]);
 }
 
 #[test]
 fn passes_over_a_mark_at_the_start_alone() {
-    let cases: [(&str, &[u8]); 4] = [
+    writes(&[
         ("\u{feff}", b""),
         ("\u{feff}A", b"\x02A"),
         ("A\u{feff}", b"\x02A\x03\xfe\xff"),
         ("\u{feff}\u{feff}", b"\x03\xfe\xff"),
-    ];
-    for (words, tape) in cases {
-        assert_eq!(run(&["text"], words.as_bytes()).done(), tape, "{words:?}");
-    }
+    ]);
 }
 
 /// Words, where they are no UTF-8, and what is said of it.

@@ -27,7 +27,7 @@ fn helps() {
 
 #[test]
 fn helps_with_each_subcommand() {
-    for subcommand in ["text", "show", "lines", "burn"] {
+    for subcommand in ["text", "show", "lines", "burn", "keep"] {
         let due = help(&[subcommand, "--help"]);
         assert!(due.starts_with(&format!("usage: captions {subcommand}")));
         assert!(due.contains("Exit status: 0"));
@@ -41,53 +41,40 @@ fn helps_with_each_subcommand() {
 }
 
 /// An option, and what the two lines of its help say.
-const OPTIONS: [(&str, [&str; 3]); 11] = [
-    ("burn", ["--width", "from 0 to 4096", "640 by default"]),
-    ("burn", ["--height", "from 0 to 4096", "360 by default"]),
-    (
-        "burn",
-        [
-            "--default-color",
-            "RRGGBB or RRGGBBAA",
-            "FFFFFFFF by default",
-        ],
-    ),
-    (
-        "burn",
-        [
-            "--outline-color",
-            "RRGGBB or RRGGBBAA",
-            "000000FF by default",
-        ],
-    ),
-    ("burn", ["--line-height", "from 0 to 1024", "20 by default"]),
-    (
-        "burn",
-        ["--bottom-margin", "from 0 to 4294967295", "24 by default"],
-    ),
-    (
-        "burn",
-        ["--outline", "from 0 to 4294967295", "1 by default"],
-    ),
-    (
-        "burn",
-        [
-            "--align",
-            "center (or centre), left, start, right or end",
-            "center by default",
-        ],
-    ),
-    ("burn", ["--stripes", "from 1 to 4294967295", "64"]),
-    (
-        "burn",
-        ["--budget", "from 1 to 4294967295", "all by default"],
-    ),
-    ("lines", ["--columns", "from 1 to 4096", "4 by default"]),
+type Said = [&'static str; 3];
+
+const OF_BURN: [Said; 10] = [
+    ["--width", "from 0 to 4096", "640 by default"],
+    ["--height", "from 0 to 4096", "360 by default"],
+    [
+        "--default-color",
+        "RRGGBB or RRGGBBAA",
+        "FFFFFFFF by default",
+    ],
+    [
+        "--outline-color",
+        "RRGGBB or RRGGBBAA",
+        "000000FF by default",
+    ],
+    ["--line-height", "from 0 to 1024", "20 by default"],
+    ["--bottom-margin", "from 0 to 4294967295", "24 by default"],
+    ["--outline", "from 0 to 4294967295", "1 by default"],
+    [
+        "--align",
+        "center (or centre), left, start, right or end",
+        "center by default",
+    ],
+    ["--stripes", "from 1 to 4294967295", "64"],
+    ["--budget", "from 1 to 4294967295", "all by default"],
 ];
+
+const OF_LINES: [Said; 1] = [["--columns", "from 1 to 4096", "4 by default"]];
 
 #[test]
 fn help_gives_ranges_and_defaults() {
-    for (subcommand, [name, takes, more]) in OPTIONS {
+    let burn = OF_BURN.map(|said| ("burn", said));
+    let lines = OF_LINES.map(|said| ("lines", said));
+    for (subcommand, [name, takes, more]) in burn.into_iter().chain(lines) {
         let help = help(&[subcommand, "--help"]);
         let head = format!("  {name} ");
         let mut lines = help.lines().skip_while(|line| !line.starts_with(&head));
@@ -111,105 +98,96 @@ fn gives_its_version() {
 #[test]
 fn says_what_it_can_do_where_it_is_not_asked() {
     let message =
-        "usage: captions text|show|lines|burn [options] < input > output; see captions --help";
+        "usage: captions text|show|lines|burn|keep [options] < input > output; see captions --help";
     run(&[], b"").failed(2, "", message);
 }
 
-/// Words, what is wrong with them, and the subcommand whose help is named.
-type Case = (&'static [&'static str], &'static str, &'static str);
+/// Words, with a blank between each two, and what is wrong with them.
+type Wrong = (&'static str, &'static str);
 
-const WRONG: [Case; 20] = [
-    (&["bogus"], "there is no subcommand \"bogus\"", ""),
-    (&[""], "there is no subcommand \"\"", ""),
-    (&["--bogus"], "there is no option \"--bogus\"", ""),
-    (&["help", "bogus"], "there is no subcommand \"bogus\"", ""),
+/// The help named is the general one.
+const WRONG: [Wrong; 6] = [
+    ("bogus", "there is no subcommand \"bogus\""),
+    ("", "there is no subcommand \"\""),
+    ("--bogus", "there is no option \"--bogus\""),
+    ("help bogus", "there is no subcommand \"bogus\""),
+    ("help text more", "the argument \"more\" is one too many"),
+    ("--version more", "the argument \"more\" is one too many"),
+];
+
+/// The help named is that of the subcommand, the first of the words.
+const WRONG_OF_A_SUBCOMMAND: [Wrong; 9] = [
+    ("show cue.tape", "the argument \"cue.tape\" is one too many"),
+    ("text --width=3", "text has no option \"--width\""),
+    ("show -x", "show has no option \"-x\""),
+    ("lines --budget 3", "lines has no option \"--budget\""),
+    ("burn --color 3", "burn has no option \"--color\""),
     (
-        &["help", "text", "more"],
-        "the argument \"more\" is one too many",
-        "",
-    ),
-    (
-        &["--version", "more"],
-        "the argument \"more\" is one too many",
-        "",
-    ),
-    (
-        &["show", "cue.tape"],
-        "the argument \"cue.tape\" is one too many",
-        " show",
-    ),
-    (
-        &["text", "--width=3"],
-        "text has no option \"--width\"",
-        " text",
-    ),
-    (&["show", "-x"], "show has no option \"-x\"", " show"),
-    (
-        &["lines", "--budget", "3"],
-        "lines has no option \"--budget\"",
-        " lines",
-    ),
-    (
-        &["burn", "--color", "3"],
-        "burn has no option \"--color\"",
-        " burn",
-    ),
-    (
-        &["lines", "--text=yes"],
+        "lines --text=yes",
         "--text takes no value, and \"yes\" is one",
-        " lines",
     ),
     (
-        &["lines", "--columns"],
+        "lines --columns",
         "the value of --columns is missing: it takes a number from 1 to 4096",
-        " lines",
     ),
     (
-        &["lines", "--columns", "-1"],
-        "--columns takes a number from 1 to 4096, not \"-1\"",
-        " lines",
-    ),
-    (
-        &["burn", "--width", "--height"],
-        "--width takes a number from 0 to 4096, not \"--height\"",
-        " burn",
-    ),
-    (
-        &["burn", "--outline=4294967296"],
-        "--outline takes a number from 0 to 4294967295, not \"4294967296\"",
-        " burn",
-    ),
-    (
-        &["burn", "--line-height="],
-        "--line-height takes a number from 0 to 1024, not \"\"",
-        " burn",
-    ),
-    (
-        &["burn", "--align", "Left"],
+        "burn --align Left",
         "--align takes center (or centre), left, start, right or end, not \"Left\"",
-        " burn",
+    ),
+    ("burn --budget 3", "--budget needs --stripes"),
+];
+
+/// Runs the words and holds what is said of them to what is wrong and the help that is named.
+fn says(words: &str, wrong: &str, subcommand: &str) {
+    let words: Vec<&str> = words.split(' ').collect();
+    let input = if wrong.ends_with("too many") {
+        " (input comes from standard input)"
+    } else {
+        ""
+    };
+    let message = format!("{wrong}{input}; see captions{subcommand} --help");
+    run(&words, b"").failed(2, "", &message);
+}
+
+/// The same of a subcommand's words, where its help is named.
+fn says_of_a_subcommand(words: &str, wrong: &str) {
+    let subcommand = words.split(' ').next().unwrap_or_default();
+    says(words, wrong, &format!(" {subcommand}"));
+}
+
+#[test]
+fn says_what_is_wrong_with_the_words() {
+    for (words, wrong) in WRONG {
+        says(words, wrong, "");
+    }
+    for (words, wrong) in WRONG_OF_A_SUBCOMMAND {
+        says_of_a_subcommand(words, wrong);
+    }
+}
+
+/// Words, and of the option at fault its name, its range and its value.
+const NO_NUMBERS: [(&str, [&str; 3]); 5] = [
+    ("lines --columns -1", ["--columns", "1 to 4096", "-1"]),
+    (
+        "burn --width --height",
+        ["--width", "0 to 4096", "--height"],
     ),
     (
-        &["burn", "--budget", "3"],
-        "--budget needs --stripes",
-        " burn",
+        "burn --outline=4294967296",
+        ["--outline", "0 to 4294967295", "4294967296"],
     ),
+    ("burn --line-height=", ["--line-height", "0 to 1024", ""]),
     (
-        &["burn", "--stripes", "9", "--budget", "0"],
-        "--budget takes a number from 1 to 4294967295, not \"0\"",
-        " burn",
+        "burn --stripes 9 --budget 0",
+        ["--budget", "1 to 4294967295", "0"],
     ),
 ];
 
 #[test]
-fn says_what_is_wrong_with_the_words() {
-    for (words, wrong, subcommand) in WRONG {
-        let mut wrong = wrong.to_string();
-        if wrong.ends_with("too many") {
-            wrong += " (input comes from standard input)";
-        }
-        let message = format!("{wrong}; see captions{subcommand} --help");
-        run(words, b"").failed(2, "", &message);
+fn says_which_value_is_no_number() {
+    for (words, [name, range, value]) in NO_NUMBERS {
+        let wrong = format!("{name} takes a number from {range}, not {value:?}");
+        says_of_a_subcommand(words, &wrong);
     }
 }
 

@@ -11,7 +11,7 @@ use reference::Original;
 /// What the original draws of a cue over these bytes, and its strokes.
 pub fn drawn(original: &Original, settings: &Settings, cue: &SubtitleCue, bytes: &[u8]) -> Drawn {
     let mut bytes = bytes.to_vec();
-    original.render_into(settings.told(), cue, &mut bytes);
+    original.render_into(settings, cue, &mut bytes);
     Drawn {
         strokes: strokes(original, settings, &cue.segments),
         bytes,
@@ -40,12 +40,13 @@ pub fn of_frame(original: &Original, frame: &Frame) -> Outcome {
 
 /// The letters of a call's tape, or the first thing that stops it.
 pub fn letters(frame: &Frame) -> letters::Outcome {
-    station(frame)?;
+    settings_and_lengths(frame)?;
     reading::read(&frame.tape, frame.settings.default_color)
 }
 
-/// What stops a call before its tape is read, if anything.
-pub fn station(frame: &Frame) -> Result<(), Refusal> {
+/// What stops a call before its tape is read, if anything: its settings, or the length of its
+/// picture's buffer, its tape or its workspace.
+pub fn settings_and_lengths(frame: &Frame) -> Result<(), Refusal> {
     let settings = &frame.settings;
     if settings.width > SIDE_MAX
         || settings.height > SIDE_MAX

@@ -12,7 +12,6 @@ mod places;
 pub mod refusals;
 pub mod sample;
 pub mod scenes;
-pub mod settings;
 pub mod speed;
 
 use crate::count::Count;
@@ -22,6 +21,7 @@ use frame::Frame;
 use kinds::Kinds;
 use oxideav_core::SubtitleCue;
 use reference::Original;
+pub use reference::settings;
 
 /// Sets the frames apart from the cues of the same seed.
 const FRAMES: u64 = 0xf4a3e5;

@@ -7,21 +7,21 @@ use crate::draw::frame::{Frame, Outcome};
 use crate::draw::generate;
 use crate::draw::settings::{LINE_HEIGHT_MAX, SIDE_MAX};
 use crate::random::Random;
-use crate::refusal::Refusal;
+use crate::sample::{self, Due, Sample, most};
 use crate::tape::{ROOM, damage};
 use crate::wrap::cues::{self, Cue};
 use oxideav_core::{Segment, SubtitleCue};
 use reference::Original;
-use std::fmt::Write;
 use std::ops::RangeInclusive;
 
-const ENTRIES: u64 = 400;
-const SEED: u64 = 22;
-/// Of so many entries the last is refused, which makes twenty.
-const APART: u64 = 20;
-/// How long a tape may be, and one with a letter too many.
+/// Twenty are refused.
+const SAMPLE: Sample = Sample {
+    seed: 22,
+    entries: 400,
+    apart: 20,
+};
+/// How long a tape may be, where its letters are not too many.
 const SHORT: usize = 400;
-const FULL: usize = 4200;
 /// What a buffer holds before the first call.
 pub const FILLED: u8 = 0x5a;
 /// The outlines, which each alignment meets in turn.
@@ -30,12 +30,6 @@ const OUTLINES: [u32; 4] = [1, 2, 0, 9];
 struct Entry {
     frame: Frame,
     due: Due,
-}
-
-enum Due {
-    /// What the original draws of the segments.
-    Drawn(Vec<Segment>),
-    Refused(Refusal),
 }
 
 /// The entries of the Draws.
@@ -79,40 +73,27 @@ pub fn put(bytes: &mut Vec<u8>, frame: &Frame, stripe_height: u16, calls: u16, w
 pub fn answers(original: &Original) -> String {
     let mut text = String::new();
     for Entry { frame, due } in all() {
-        let due = match due {
-            Due::Drawn(segments) => {
-                let cue = SubtitleCue {
-                    segments,
-                    positioning: frame.settings.positioning(false),
-                };
-                Ok(due::drawn(original, &frame.settings, &cue, &frame.bytes))
-            }
-            Due::Refused(refusal) => Err(refusal),
-        };
-        answer(&mut text, &due);
+        let due = due.map(|segments| {
+            let cue = SubtitleCue {
+                segments,
+                positioning: frame.settings.positioning(false),
+            };
+            due::drawn(original, &frame.settings, &cue, &frame.bytes)
+        });
+        answer(&mut text, due);
     }
     text
 }
 
 /// Writes the line of a call: its strokes and the digest of the buffer after it, or its refusal.
-pub fn answer(text: &mut String, due: &Outcome) {
-    let _ = match due {
-        Ok(drawn) => {
-            let digest = digest(drawn.bytes.iter().copied());
-            writeln!(text, "{} {digest:08x}", drawn.strokes)
-        }
-        Err(Refusal { number, place }) => writeln!(text, "refused {number} {place}"),
-    };
+pub fn answer(text: &mut String, due: Outcome) {
+    sample::answer(text, due.map(|drawn| (drawn.strokes, digest(drawn.bytes))));
 }
 
 fn all() -> impl Iterator<Item = Entry> {
-    (0..ENTRIES).map(|number| {
-        let mut random = Random::new(SEED, number);
-        if number % APART == APART - 1 {
-            refused(&mut random, number / APART)
-        } else {
-            drawn(&mut random, number)
-        }
+    SAMPLE.all(|random, number, index| match index {
+        Some(index) => refused(random, index),
+        None => drawn(random, number),
     })
 }
 
@@ -120,7 +101,7 @@ fn drawn(random: &mut Random, number: u64) -> Entry {
     let (frame, segments) = caption(random, number, 0..=60, SHORT);
     Entry {
         frame,
-        due: Due::Drawn(segments),
+        due: Ok(segments),
     }
 }
 
@@ -181,12 +162,11 @@ fn refused(random: &mut Random, index: u64) -> Entry {
         let tape = damage::tape(random);
         let mut frame = small(random, tape);
         spoil(&mut frame, index);
-        let most = if number == 6 { FULL } else { SHORT };
         if let Err(refusal) = due::letters(&frame)
             && refusal.number == number
-            && frame.tape.len() <= most
+            && frame.tape.len() <= most(number, SHORT)
         {
-            let due = Due::Refused(refusal);
+            let due = Err(refusal);
             return Entry { frame, due };
         }
     }

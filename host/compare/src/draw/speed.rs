@@ -89,7 +89,7 @@ fn times(scene: &Scene, original: &Original, colors: Colors) -> [Times; 2] {
         }
         _ => {
             let cue = black_box(&cues[call - 2]);
-            original.render_into(settings.told(), cue, black_box(&mut picture));
+            original.render_into(&settings, cue, black_box(&mut picture));
         }
     });
     let [ours, our_clearing, theirs, their_clearing] = best.map(micros);

@@ -3,18 +3,9 @@
 use crate::fenced::{Fenced, Lent};
 use crate::font::proved::{self, ORIGIN, Part};
 use reference::Original;
+pub use reference::Stroke;
 use std::fmt;
 use std::ops::Range;
-
-#[derive(Clone, Copy, Debug)]
-pub struct Stroke {
-    pub ch: char,
-    pub bold: bool,
-    pub italic: bool,
-    pub color: [u8; 4],
-    pub x: i32,
-    pub y: i32,
-}
 
 pub struct Picture {
     pub width: u32,
@@ -60,10 +51,8 @@ impl Picture {
 
     fn by_original(&self, original: &Original) -> Vec<u8> {
         let mut bytes = self.bytes.clone();
-        let (w, h) = (self.width, self.height);
-        for s in &self.strokes {
-            original
-                .draw_glyph_sheared(s.bold, s.ch, &mut bytes, w, h, s.x, s.y, s.color, s.italic);
+        for stroke in &self.strokes {
+            original.draw_glyph_sheared(stroke, &mut bytes, self.width, self.height);
         }
         bytes
     }

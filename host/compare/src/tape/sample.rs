@@ -2,10 +2,10 @@
 
 use crate::digest::digest;
 use crate::random::Random;
+use crate::sample::answer;
 use crate::tape::{WHITE, flatten, segments, written};
 use oxideav_core::Segment;
 use reference::Original;
-use std::fmt::Write;
 
 const TAPES: u64 = 300;
 const SEED: u64 = 20;
@@ -36,7 +36,7 @@ pub fn answers(original: &Original) -> String {
         let (segments, _) = numbered(number);
         let letters = flatten(original, &segments, WHITE);
         let digest = digest(letters.iter().flat_map(|letter| letter.bytes()));
-        let _ = writeln!(text, "{} {digest:08x}", letters.len());
+        answer(&mut text, Ok((letters.len(), digest)));
     }
     text
 }

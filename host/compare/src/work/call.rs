@@ -1,6 +1,7 @@
 //! One call of the proved Open or Work between fences, held to what is due of it.
 
 use crate::draw::frame::Frame;
+pub use crate::proved::Ask;
 use crate::proved::{self, Buffers};
 use crate::refusal::Refusal;
 use crate::work::record::Record;
@@ -8,12 +9,6 @@ use std::fmt::{self, Display, Formatter};
 
 /// What stands on each side of a record.
 const POSTS: [u32; 16] = [0x5eed_fe4c; 16];
-
-#[derive(Clone, Copy, Debug)]
-pub enum Ask {
-    Open { stripe_height: u32 },
-    Work { stripe: u32, budget: u32 },
-}
 
 /// A call: what it asks for, and what it is told and lent.
 pub struct Call {
@@ -76,11 +71,7 @@ impl Call {
     }
 
     fn ask(&self, buffers: Buffers, record: &mut Record) -> Result<usize, Refusal> {
-        let settings = &self.frame.settings;
-        match self.ask {
-            Ask::Open { stripe_height } => proved::open(settings, buffers, stripe_height, record),
-            Ask::Work { stripe, budget } => proved::work(settings, buffers, record, stripe, budget),
-        }
+        proved::ask(&self.frame.settings, buffers, record, self.ask)
     }
 
     /// The record after a refusal.

@@ -13,7 +13,7 @@ use reference::Original;
 /// its tape.
 pub fn of_call(original: &Original, call: &Call) -> Outcome {
     let frame = &call.frame;
-    due::station(frame)?;
+    due::settings_and_lengths(frame)?;
     stripes(call)?;
     let color = frame.settings.default_color;
     let letters = reading::read(&frame.tape, color)?;

@@ -95,14 +95,14 @@ impl Base {
     /// one, if any, goes behind the tape's.
     fn first(&self, stripes: bool, last: Option<Refusal>) -> Option<Refusal> {
         let long = self.fault.is_some_and(|fault| fault.number == 10);
-        let stations = [
+        let before_tape = [
             (8, self.broken.is_some()),
             (9, self.short),
             (10, long),
             (11, self.room < ROOM),
             (13, stripes),
         ];
-        wrong(&stations).or(self.fault).or(last)
+        wrong(&before_tape).or(self.fault).or(last)
     }
 
     fn check(

@@ -5,6 +5,7 @@ use crate::draw::frame::{Drawn, Frame};
 use crate::draw::sample::{self, FILLED};
 use crate::draw::settings::Settings;
 use crate::random::Random;
+use crate::sample::Sample;
 use crate::tape::damage;
 use crate::work::call::{Ask, Call, Outcome};
 use crate::work::record::{Record, STRIPES, Stripes};
@@ -12,10 +13,13 @@ use crate::work::theirs::Theirs;
 use crate::work::{due, generate};
 use reference::Original;
 
-const JOBS: u64 = 80;
-const SEED: u64 = 23;
-/// Of so many jobs the last has an Open that is refused, and another one 64 stripes.
-const APART: u64 = 8;
+/// Ten have an Open that is refused.
+const JOBS: Sample = Sample {
+    seed: 23,
+    entries: 80,
+    apart: 8,
+};
+/// Of each eight jobs this one, counted from 0, has 64 stripes.
 const TALL: u64 = 3;
 /// How many letters a cue may have, and bytes its tape.
 const LETTERS: i64 = 40;
@@ -57,19 +61,15 @@ pub fn answers(original: &Original) -> String {
 }
 
 fn all(original: &Original) -> impl Iterator<Item = Job> {
-    (0..JOBS).map(|number| {
-        let mut random = Random::new(SEED, number);
-        if number % APART == APART - 1 {
-            refused(original, &mut random, number)
-        } else {
-            done(original, &mut random, number)
-        }
+    JOBS.all(|random, number, index| match index {
+        Some(index) => refused(original, random, number, index),
+        None => done(original, random, number),
     })
 }
 
 fn done(original: &Original, random: &mut Random, number: u64) -> Job {
     let (mut frame, segments) = sample::caption(random, number, 1..=LETTERS, SHORT);
-    let stripe_height = if number % APART == TALL {
+    let stripe_height = if number % JOBS.apart == TALL {
         tall(random, &mut frame, 0)
     } else {
         stripe_height(random, frame.settings.height)
@@ -119,8 +119,7 @@ fn tall(random: &mut Random, frame: &mut Frame, more: u32) -> u32 {
 
 /// A job whose Open is refused, so that its Works are not done: for its stripes, which are looked at
 /// before the tape, for its tape or for its buffer.
-fn refused(original: &Original, random: &mut Random, number: u64) -> Job {
-    let index = number / APART;
+fn refused(original: &Original, random: &mut Random, number: u64, index: u64) -> Job {
     let (kind, fault) = (index as usize % 5, index as u32 % 7 + 1);
     let due = [13, 13, fault, 9, 13][kind];
     loop {
@@ -187,6 +186,6 @@ impl Job {
                 bytes: done.bytes,
             }
         });
-        sample::answer(&mut self.answers, &drawn);
+        sample::answer(&mut self.answers, drawn);
     }
 }

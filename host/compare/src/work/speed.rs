@@ -3,7 +3,7 @@
 use crate::draw::cases::OPAQUE;
 use crate::draw::scenes::{Scene, scenes};
 use crate::draw::settings::Settings;
-use crate::proved::{self, Buffers};
+use crate::proved::{self, Ask, Buffers};
 use crate::tape::segments::MOST_LETTERS;
 use crate::tape::{ROOM, written};
 use crate::timing::{in_turn, micros};
@@ -130,14 +130,16 @@ impl Desk {
 
     fn open(&mut self, stripe_height: u32, record: &mut Record) {
         let (settings, buffers) = self.told();
-        let _ = black_box(proved::open(&settings, buffers, stripe_height, record));
+        let ask = Ask::Open { stripe_height };
+        let _ = black_box(proved::ask(&settings, buffers, record, ask));
     }
 
     /// Works with the budget on every stripe of the record.
     fn each_stripe(&mut self, record: &mut Record, budget: u32) {
         for stripe in 0..record.stripes(self.settings.height) as u32 {
             let (settings, buffers) = self.told();
-            let _ = black_box(proved::work(&settings, buffers, record, stripe, budget));
+            let ask = Ask::Work { stripe, budget };
+            let _ = black_box(proved::ask(&settings, buffers, record, ask));
         }
     }
 }

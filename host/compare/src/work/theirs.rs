@@ -36,7 +36,7 @@ impl<'a> Theirs<'a> {
     pub fn whole(&self) -> Vec<u8> {
         let mut bytes = vec![0; self.settings.area()];
         self.original
-            .render_into(self.settings.told(), &self.cue, &mut bytes);
+            .render_into(&self.settings, &self.cue, &mut bytes);
         bytes
     }
 
@@ -45,9 +45,8 @@ impl<'a> Theirs<'a> {
         let kept = self.stopped.take().filter(|(after, _)| *after == strokes);
         let (_, bytes) = self.stopped.insert(kept.unwrap_or_else(|| {
             let mut bytes = vec![0; self.settings.area()];
-            let told = self.settings.told();
             self.original
-                .render_strokes(told, &self.cue, &mut bytes, strokes);
+                .render_strokes(&self.settings, &self.cue, &mut bytes, strokes);
             (strokes, bytes)
         }));
         bytes
@@ -56,6 +55,6 @@ impl<'a> Theirs<'a> {
     /// Draws the strokes with these numbers over the bytes, and answers how many there are in all.
     pub fn draw(&self, bytes: &mut [u8], window: Range<usize>) -> usize {
         self.original
-            .draw_strokes(self.settings.told(), &self.cue, bytes, window)
+            .draw_strokes(&self.settings, &self.cue, bytes, window)
     }
 }

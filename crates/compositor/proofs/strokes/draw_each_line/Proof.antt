@@ -3,9 +3,9 @@ use Prim.Native.Nat.{ℕ, _+_, _-_, _≤_}
 use native.Mathlib.Omega.{arith}
 use lib.ListN.{length}
 use Rattle.compositor.specs.Read.{lettersFrom, strokesAt}
-use Rattle.font.specs.Places.{Lent}
+use Rattle.font.specs.Lent.{Lent}
 use Rattle.compositor.proofs.Painting.{Still, begin, turn, done}
-use Rattle.compositor.proofs.Reading.{linesLeft, lines-begin, lines-turn, lines-end, letters-turn, fewer}
+use Rattle.compositor.proofs.ReadBack.{linesLeft, lines-begin, lines-turn, lines-end, letters-turn, fewer}
 use Rattle.compositor.proofs.strokes.draw_each_line.Statement.{statement}
 use Rattle.compositor.proofs.strokes.draw_each_line.Tie as tie
 

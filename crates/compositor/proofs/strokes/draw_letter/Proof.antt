@@ -6,12 +6,12 @@ use native.Mathlib.Omega.{arith}
 use Rattle.font.specs.declared.Pen.{Pen}
 use Rattle.font.specs.Font.{glyphRows}
 use Rattle.font.specs.Shear.{penOf, Inked}
-use Rattle.font.specs.Places.{Lent}
+use Rattle.font.specs.Lent.{Lent}
 use Rattle.tape.specs.declared.Style.{Style}
 use Rattle.tape.specs.Stored.{letterAt}
-use Rattle.compositor.specs.Strokes.{colorOf}
+use Rattle.compositor.specs.Order.{colorOf}
 use Rattle.compositor.proofs.Painting.{missed, then, same}
-use Rattle.compositor.proofs.Reading.{inked, letter-strokes}
+use Rattle.compositor.proofs.ReadBack.{inked, letter-strokes}
 use Rattle.compositor.proofs.Total.{letter-length}
 use borrow.Author.Needs.{needs}
 use Rattle.compositor.proofs.strokes.draw_letter.Statement.{statement}

@@ -3,11 +3,11 @@ use mathlib.Core.Path.{_≡_, _∙_, refl, sym, subst}
 use Prim.Native.Nat.{ℕ, _+_, _-_, _*_, _≤_}
 use native.Mathlib.Omega.{arith}
 use lib.ListN.{length}
-use Rattle.compositor.specs.Strokes.{lineStrokes}
+use Rattle.compositor.specs.Order.{lineStrokes}
 use Rattle.compositor.specs.Read.{lettersAt}
-use Rattle.font.specs.Places.{Lent}
+use Rattle.font.specs.Lent.{Lent}
 use Rattle.compositor.proofs.Painting.{Still, begin, turn, done}
-use Rattle.compositor.proofs.Reading.{lineLeft, line-begin, line-turn, line-end}
+use Rattle.compositor.proofs.ReadBack.{lineLeft, line-begin, line-turn, line-end}
 use Rattle.compositor.proofs.strokes.draw_line.Statement.{statement}
 use Rattle.compositor.proofs.strokes.draw_line.Tie as tie
 

@@ -7,7 +7,7 @@ use Rattle.font.proofs.Rounding.{leans-back, shear-of}
 use Rattle.compositor.specs.Read.{strokesAt, strokesIn}
 use Rattle.compositor.specs.Outline.{outlineOf}
 use Rattle.compositor.proofs.Painting.{nothing}
-use Rattle.compositor.proofs.Off.{lines-around, missing}
+use Rattle.compositor.proofs.LinesOff.{lines-around, missing}
 use borrow.Author.Needs.{needs}
 use Rattle.compositor.proofs.strokes.draw_lines.Statement.{statement}
 use Rattle.compositor.proofs.strokes.draw_lines.Tie as tie

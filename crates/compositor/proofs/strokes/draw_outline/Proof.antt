@@ -2,11 +2,11 @@ use mathlib.Core.Path.{_≡_, _∙_, refl, sym, subst}
 use Prim.Native.Nat.{ℕ, _+_, _-_, _*_, _≤_}
 use native.Mathlib.Omega.{arith}
 use lib.ListN.{length}
-use Rattle.compositor.specs.Outline.{ring}
-use Rattle.font.specs.Places.{Lent}
+use Rattle.compositor.specs.Outline.{displacements}
+use Rattle.font.specs.Lent.{Lent}
 use Rattle.compositor.specs.Painting.{strokesOf}
 use Rattle.compositor.proofs.Painting.{nothing, Still, begin, turn, done}
-use Rattle.compositor.proofs.Outlines.{rowsLeft, ring-none, ring-some, rows-turn, rows-end}
+use Rattle.compositor.proofs.Outlines.{rowsLeft, displacements-none, displacements-some, rows-turn, rows-end}
 use Rattle.compositor.proofs.strokes.draw_outline.Statement.{statement}
 use Rattle.compositor.proofs.strokes.draw_outline.Tie as tie
 
@@ -14,16 +14,16 @@ abbrev Inv-loop : tie.InvT-loop
 Inv-loop part₀ rows code glyph offsets at pen o left₀ dy₀ part left dy =
     (dy ≤ 2 * o + 1)
     × (length part ≡ length part₀)
-    × Still rows (strokesOf code pen o at (ring o)) left₀ part₀ (rowsLeft code pen o at dy) left part
+    × Still rows (strokesOf code pen o at (displacements o)) left₀ part₀ (rowsLeft code pen o at dy) left part
 
 abbrev μ-loop : tie.MeasureT-loop
 μ-loop part₀ rows code glyph offsets at pen o left₀ dy₀ part left dy = 2 * o + 1 - dy
 
 returns : tie.Need-returns Inv-loop μ-loop
-returns c = rw (ring-none _ _ _ _ (c .if1 .taken)) (nothing _ _ _)
+returns c = rw (displacements-none _ _ _ _ (c .if1 .taken)) (nothing _ _ _)
 
 loop-holds : tie.Need-loop-holds Inv-loop μ-loop
-loop-holds c = let a = c .before .before .args in (omega arith, refl, begin _ _ _ _ (ring-some (a .code) (a .pen) (a .o) (a .at) (omega arith)))
+loop-holds c = let a = c .before .before .args in (omega arith, refl, begin _ _ _ _ (displacements-some (a .code) (a .pen) (a .o) (a .at) (omega arith)))
 
 mul-loop : tie.Need-mul-loop Inv-loop μ-loop
 mul-loop c = let h = c .before .before .before .pre .3 in omega arith
@@ -31,8 +31,8 @@ mul-loop c = let h = c .before .before .before .pre .3 in omega arith
 add-loop : tie.Need-add-loop Inv-loop μ-loop
 add-loop c = let h = c .before .before .before .pre .3 in omega arith
 
-draw-ring-row-requires : tie.Need-draw-ring-row-requires Inv-loop μ-loop
-draw-ring-row-requires c κs =
+draw-outline-row-requires : tie.Need-draw-outline-row-requires Inv-loop μ-loop
+draw-outline-row-requires c κs =
     let at-loop = c .before .before in
     let start = at-loop .before .before .before in
     let e = start .pre in
@@ -51,14 +51,14 @@ loop-less c = let h = c .before .before .before .before .loop-test .taken in ome
 
 loop-again : tie.Need-loop-again Inv-loop μ-loop
 loop-again c =
-    let after-draw-ring-row = c .before .before in
-    let in-loop = after-draw-ring-row .before .before in
+    let after-draw-outline-row = c .before .before in
+    let in-loop = after-draw-outline-row .before .before in
     let at-loop = in-loop .before in
     let s = at-loop .before .before .before in
     let a = s .args in
     let l = at-loop .loop in
     let h = in-loop .loop-test .taken in
-    let d = after-draw-ring-row .draw-ring-row in
+    let d = after-draw-outline-row .draw-outline-row in
     let fits : Lent (length (l .part)) (s .args .rows) = subst (λ (n : ℕ). Lent n (s .args .rows)) (sym (l .inv .1)) (s .pre .0) in (
       omega arith,
       d .kept .0 ∙ l .inv .1,
@@ -85,7 +85,7 @@ draw-outline-spec =
     loop-holds
     mul-loop
     add-loop
-    draw-ring-row-requires
+    draw-outline-row-requires
     add-dy
     loop-less
     loop-again

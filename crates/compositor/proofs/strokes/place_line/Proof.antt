@@ -4,14 +4,14 @@ use native.Mathlib.Omega.{arith}
 use lib.ListN.{length}
 use Rattle.compositor.specs.Layout.{lineWidth, lineStart}
 use Rattle.compositor.specs.Outline.{outlineOf}
-use Rattle.compositor.specs.Strokes.{lineStrokes}
+use Rattle.compositor.specs.Order.{lineStrokes}
 use Rattle.compositor.specs.Read.{lettersAt}
 use Rattle.wrap.specs.Laid.{columnsOn}
-use Rattle.compositor.proofs.Off.{line-around, missing}
+use Rattle.compositor.proofs.LinesOff.{line-around, missing}
 use Rattle.compositor.proofs.Painting.{missed}
-use Rattle.compositor.proofs.Reading.{letters-length}
+use Rattle.compositor.proofs.ReadBack.{letters-length}
 use Rattle.compositor.proofs.Total.{line-length}
-use Rattle.compositor.proofs.Whole.{total-small}
+use Rattle.compositor.proofs.WrappedLines.{total-small}
 use borrow.Author.Needs.{needs}
 use Rattle.compositor.proofs.strokes.place_line.Statement.{statement}
 use Rattle.compositor.proofs.strokes.place_line.Tie as tie

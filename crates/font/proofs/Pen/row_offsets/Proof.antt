@@ -7,7 +7,7 @@ use borrow.Author.Needs.{needs}
 use Rattle.font.specs.Font.{tabulate}
 use Rattle.font.specs.Slant.{rowOffset}
 use Rattle.font.specs.Shear.{leans}
-use Rattle.font.proofs.Fill.{fill-step, fill-end}
+use Rattle.font.proofs.ArrayFill.{fill-step, fill-end}
 use Rattle.font.proofs.Pen.row_offsets.Statement.{statement}
 use Rattle.font.proofs.Pen.row_offsets.Tie as tie
 

@@ -1,6 +1,6 @@
 -- `blend_alpha` meets its contract.
 use mathlib.Core.Path.{_∙_}
-use Rattle.font.proofs.Pixel.{alpha-byte}
+use Rattle.font.proofs.PixelBlend.{alpha-byte}
 use borrow.Author.Needs.{needs}
 use Rattle.font.proofs.paint.blend_alpha.Statement.{statement}
 use Rattle.font.proofs.paint.blend_alpha.Tie as tie

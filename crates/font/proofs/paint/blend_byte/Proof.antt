@@ -1,7 +1,7 @@
 -- `blend_byte` meets its contract.
 use mathlib.Core.Path.{_∙_}
 use native.Mathlib.Omega.{arith}
-use Rattle.font.proofs.Pixel.{byte-small}
+use Rattle.font.proofs.PixelBlend.{byte-small}
 use borrow.Author.Needs.{needs}
 use Rattle.font.proofs.paint.blend_byte.Statement.{statement}
 use Rattle.font.proofs.paint.blend_byte.Tie as tie

@@ -4,7 +4,7 @@ use mathlib.Core.Bool.{cond}
 use Prim.Native.Nat.{ℕ, _+_}
 use native.Mathlib.Omega.{arith}
 use lib.ListN.{getD, length-set}
-use Rattle.font.proofs.Pixel.{pixel-of}
+use Rattle.font.proofs.PixelBlend.{pixel-of}
 use borrow.Author.Needs.{needs}
 use Rattle.font.proofs.paint.blend_pixel.Statement.{statement}
 use Rattle.font.proofs.paint.blend_pixel.Tie as tie

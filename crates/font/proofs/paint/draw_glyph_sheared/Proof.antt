@@ -2,7 +2,7 @@
 use mathlib.Core.Path.{_≡_, _∙_, sym}
 use Prim.Native.Nat.{_+_, _*_}
 use lib.ListN.{length}
-use Rattle.font.specs.Stroke.{strokeRow, eachRow}
+use Rattle.font.specs.Paint.{strokeRow, eachRow}
 use Rattle.font.specs.Shear.{penGlyph, penOffsets, penRow}
 use Rattle.font.proofs.Columns.{four-bytes}
 use Rattle.font.proofs.Rows.{rows-kept, stroke-clear}

@@ -7,7 +7,7 @@ use native.Mathlib.Omega.{arith}
 use lib.ListN.{length}
 use borrow.Author.Needs.{needs}
 use borrow.Rule.Slice.PartMut.{same-len-mid}
-use Rattle.font.specs.Stroke.{origin}
+use Rattle.font.specs.Paint.{origin}
 use Rattle.font.proofs.Rows.{row-in, less, Falls, falls, Left, left-start, left-turn, left-end}
 use Rattle.font.proofs.paint.draw_rows.Statement.{statement}
 use Rattle.font.proofs.paint.draw_rows.Tie as tie

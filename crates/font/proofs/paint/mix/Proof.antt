@@ -2,7 +2,7 @@
 use Prim.Native.Nat.{_-_, _*_, _≤_}
 use native.Mathlib.Omega.{arith}
 use Rattle.font.specs.Blend.{blendByte}
-use Rattle.font.proofs.Pixel.{byte-mul}
+use Rattle.font.proofs.PixelBlend.{byte-mul}
 use borrow.Author.Needs.{needs}
 use Rattle.font.proofs.paint.mix.Statement.{statement}
 use Rattle.font.proofs.paint.mix.Tie as tie

@@ -4,7 +4,7 @@ use mathlib.Core.List.{[], _∷_}
 use Prim.Native.Nat.{_+_, _-_, _*_}
 use native.Mathlib.Omega.{arith}
 use Rattle.font.specs.Blend.{blendPixel}
-use Rattle.font.specs.Stroke.{origin, paintColumn}
+use Rattle.font.specs.Paint.{origin, paintColumn}
 use Rattle.font.proofs.Columns.{column-on}
 use borrow.Author.Needs.{needs}
 use Rattle.font.proofs.paint.paint_bit.Statement.{statement}

@@ -5,7 +5,7 @@ use Prim.Native.Nat.{_-_, _≤_}
 use native.Mathlib.Omega.{arith}
 use lib.ListN.{length}
 use borrow.Author.Needs.{needs}
-use Rattle.font.specs.Stroke.{paintColumns}
+use Rattle.font.specs.Paint.{paintColumns}
 use Rattle.font.proofs.Columns.{columns-step}
 use Rattle.font.proofs.paint.paint_clipped.Statement.{statement}
 use Rattle.font.proofs.paint.paint_clipped.Tie as tie

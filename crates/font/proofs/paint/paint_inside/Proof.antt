@@ -2,7 +2,7 @@
 use mathlib.Core.Path.{_∙_, ap}
 use mathlib.Core.List.{List, [], _∷_}
 use Prim.Native.Nat.{ℕ, _+_}
-use Rattle.font.specs.Stroke.{paintBit, paintColumns}
+use Rattle.font.specs.Paint.{paintBit, paintColumns}
 use borrow.Author.Needs.{needs}
 use Rattle.font.proofs.paint.paint_inside.Statement.{statement}
 use Rattle.font.proofs.paint.paint_inside.Tie as tie

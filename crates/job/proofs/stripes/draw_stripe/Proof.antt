@@ -3,6 +3,7 @@ use Prim.Native.Nat.{ℕ, _+_, _-_, _*_, _≤_}
 use native.Mathlib.Omega.{arith}
 use lib.ListN.{length, length-take, length-drop}
 use Rattle.compositor.specs.Settings.{rowBytes, pictureBytes}
+use Rattle.compositor.specs.Ready.{mostPicture}
 use Rattle.job.specs.Stripes.{firstRow}
 use Rattle.compositor.proofs.Ranges.{picture-small}
 use Rattle.job.proofs.Division.{rowCount, stripe-fits, stripe-is}
@@ -14,7 +15,7 @@ use Rattle.job.proofs.stripes.draw_stripe.Tie as tie
 within : (c : tie.After-struct-known2) →
     let a = c .before .before .before .before .before .args in
     let end = firstRow (a .stripe-height) (a .k) * rowBytes (a .s) + c .before .least .result * rowBytes (a .s) in
-    (end ≤ length (a .picture .now)) × (end ≤ 67108864)
+    (end ≤ length (a .picture .now)) × (end ≤ mostPicture)
 within c =
     let start = c .before .before .before .before .before in
     let a = start .args in

@@ -3,7 +3,7 @@ use mathlib.Core.Bool.{Bool}
 use native.Mathlib.Omega.{arith}
 use Rattle.tape.specs.declared.State.{State}
 use Rattle.tape.specs.Command.{added}
-use Rattle.tape.proofs.Stores.{wrote-pair}
+use Rattle.tape.proofs.StoredRuns.{wrote-pair}
 use borrow.Author.Needs.{needs}
 use Rattle.tape.proofs.State.finish.Statement.{statement}
 use Rattle.tape.proofs.State.finish.Tie as tie

@@ -3,10 +3,10 @@ use Prim.Native.Nat.{ℕ, _+_, _-_, _*_, _≤_, _<_}
 use native.Mathlib.Omega.{arith}
 use borrow.Author.Needs.{needs}
 use lib.ListN.{length}
-use Rattle.tape.specs.Command.{width, codePoint}
+use Rattle.tape.specs.Command.{operandWidth, codePoint}
 use Rattle.tape.specs.Reading.{byteAt}
 use Rattle.tape.proofs.Commands.{letter-range}
-use Rattle.tape.proofs.Numbers.{letter-width, spells-1, spells-2, spells-3}
+use Rattle.tape.proofs.Operands.{letter-width, spells-1, spells-2, spells-3}
 use Rattle.tape.proofs.command.code_point.Statement.{statement}
 use Rattle.tape.proofs.command.code_point.Tie as tie
 
@@ -14,11 +14,11 @@ use Rattle.tape.proofs.command.code_point.Tie as tie
 reach : (c : tie.Start) →
     let a = c .args in
     let k = byteAt (a .tape .now) (a .at) in
-    (2 ≤ k) × (k ≤ 4) × (width k ≡ k - 1) × (a .at + width k < length (a .tape .now))
+    (2 ≤ k) × (k ≤ 4) × (operandWidth k ≡ k - 1) × (a .at + operandWidth k < length (a .tape .now))
 reach c = let r = letter-range _ (c .pre .0) in (r .0, r .1, letter-width _ (r .0) (r .1), c .pre .1)
 
 -- so many
-has : (c : tie.Start) (w : ℕ) → byteAt (c .args .tape .now) (c .args .at) ≡ w + 1 → width (byteAt (c .args .tape .now) (c .args .at)) ≡ w
+has : (c : tie.Start) (w : ℕ) → byteAt (c .args .tape .now) (c .args .at) ≡ w + 1 → operandWidth (byteAt (c .args .tape .now) (c .args .at)) ≡ w
 has c w e = let r = reach c in omega arith
 
 four : (c : tie.Else2) →

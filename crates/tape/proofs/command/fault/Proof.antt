@@ -14,7 +14,7 @@ Left s i =
     let a = s .args in
     let c = getD (a .tape .now) (a .at) 0 in
     let rest = drop (a .at + 1) (a .tape .now) in
-    faultOf (a .name) (a .depth) (a .count) c rest ≡ firstOf (drop i (faultTests (a .name) (a .depth) (a .count) c rest))
+    faultOf (a .naming) (a .depth) (a .count) c rest ≡ firstOf (drop i (faultTests (a .naming) (a .depth) (a .count) c rest))
 
 shared-slice-read-c : tie.Need-shared-slice-read-c
 shared-slice-read-c c = search needs

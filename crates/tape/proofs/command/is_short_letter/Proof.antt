@@ -4,7 +4,7 @@ use native.Mathlib.Omega.{arith}
 use borrow.Author.Needs.{needs}
 use borrow.Author.Tests.{le-leb, lt-leb, eq-eqb, ne-eqb}
 use lib.ListN.{length, length-drop}
-use Rattle.tape.specs.Command.{width}
+use Rattle.tape.specs.Command.{operandWidth}
 use Rattle.tape.specs.Reading.{restAt, shortLetter}
 use Rattle.tape.proofs.command.is_short_letter.Statement.{statement}
 use Rattle.tape.proofs.command.is_short_letter.Tie as tie
@@ -31,7 +31,7 @@ returns-2 c =
     let a = c .before .before .before .before .before .args in
     let n = length-drop (a .at + 1) (a .tape .now) in
     let w = c .before .operand-width .ensures .0 in
-    let few : length (restAt (a .tape .now) (a .at)) < width 0x02 = omega arith in
+    let few : length (restAt (a .tape .now) (a .at)) < operandWidth 0x02 = omega arith in
     rw (eq-eqb _ 0x02 (c .before .before .if1 .left), lt-leb _ _ few)
 
 returns-3 : tie.Need-returns-3
@@ -40,7 +40,7 @@ returns-3 c =
     let a = c .before .before .before .before .before .args in
     let n = length-drop (a .at + 1) (a .tape .now) in
     let w = c .before .operand-width .ensures .0 in
-    let whole : width 0x02 ≤ length (restAt (a .tape .now) (a .at)) = omega arith in
+    let whole : operandWidth 0x02 ≤ length (restAt (a .tape .now) (a .at)) = omega arith in
     rw (eq-eqb _ 0x02 (c .before .before .if1 .left), le-leb _ _ whole) refl
 
 pub is-short-letter-spec : {M : Type 1} → statement M

@@ -6,7 +6,7 @@ use native.Mathlib.Nat.{add-assoc}
 use native.Mathlib.Omega.{arith}
 use lib.ListN.{length}
 use lib.Seq.{getD-drop}
-use Rattle.tape.specs.Command.{width}
+use Rattle.tape.specs.Command.{operandWidth}
 use Rattle.tape.proofs.command.style_inside.Statement.{statement}
 use Rattle.tape.proofs.command.style_inside.Tie as tie
 
@@ -20,8 +20,8 @@ returns-2 : tie.Need-returns-2
 returns-2 c = simp (ne-eqb _ _ (c .before .if1 .left), eq-eqb _ _ (c .if2 .taken))
 
 -- a color's operands are there, by the table
-whole : (c : tie.Then3) → let a = c .before .before .before .before .args in a .at + width 0x08 < length (a .tape .now)
-whole c = omega (arith, ap width (c .if3 .taken))
+whole : (c : tie.Then3) → let a = c .before .before .before .before .args in a .at + operandWidth 0x08 < length (a .tape .now)
+whole c = omega (arith, ap operandWidth (c .if3 .taken))
 
 add-t18 : tie.Need-add-t18
 add-t18 c = search needs

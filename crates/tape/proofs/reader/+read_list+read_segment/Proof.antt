@@ -13,15 +13,15 @@ use lib.ListN.{length, length-drop}
 use Rattle.tape.specs.declared.State.{State}
 use Rattle.tape.specs.declared.Step.{Step}
 use Rattle.tape.specs.Outcome.{refused}
-use Rattle.tape.specs.Command.{deepest, isLetter, isOpener, added, Command, ends, opens, voice, openerOf, commandOf}
+use Rattle.tape.specs.Command.{deepest, isLetter, isOpener, added, Command, ends, opens, names, openerOf, commandOf}
 use Rattle.tape.specs.Tape.{says, next}
 use Rattle.tape.specs.Reading.{byteOf, restOf, commandAt, within, past, Sound, Went, Reads, Onward, SegmentRead}
 use Rattle.tape.proofs.Commands.{open-command}
 use Rattle.tape.proofs.Faults.{clean, not-outer, not-deepest, opens-in-list}
-use Rattle.tape.proofs.Leaves.{leaf, went-leaf}
-use Rattle.tape.proofs.Steps.{end-from, end-inside}
-use Rattle.tape.proofs.Styles.{split}
-use Rattle.tape.proofs.Went.{wrote-length, went-none, went-then, went-stopped, stopped-fault, went-command, then-reads, inner-reads, went-outer, onward}
+use Rattle.tape.proofs.LeafCommands.{leaf, went-leaf}
+use Rattle.tape.proofs.MeaningSteps.{end-from, end-inside}
+use Rattle.tape.proofs.EqualStyles.{split}
+use Rattle.tape.proofs.TapeParts.{wrote-length, went-none, went-then, went-stopped, stopped-fault, went-command, then-reads, inner-reads, went-outer, onward}
 use Rattle.tape.proofs.reader.read_list.Reads as read-list
 use Rattle.tape.proofs.reader.read_list.Kinds as read-list-kinds
 use Rattle.tape.proofs.reader.+read_list+read_segment.Lts-read_list as list
@@ -96,10 +96,10 @@ segment-claims t = (
 )
 
 abbrev read-list-Inv-loop : list.InvT-loop
-read-list-Inv-loop tape ws₀ style name depth s₀ ws s = Went tape ws₀ ws depth (within style name) (within style name) s₀ s
+read-list-Inv-loop tape ws₀ style naming depth s₀ ws s = Went tape ws₀ ws depth (within style naming) (within style naming) s₀ s
 
 abbrev read-list-μ-loop : list.MeasureT-loop
-read-list-μ-loop tape ws₀ style name depth s₀ ws s = length tape - s .at
+read-list-μ-loop tape ws₀ style naming depth s₀ ws s = length tape - s .at
 
 -- a need or a place of each
 abbrev of-list : (list.Claims → In 2 read-list-kinds.ps → Out 2 read-list-kinds.ps read-list-kinds.r → list.InvT-loop → list.MeasureT-loop → Type 0)
@@ -115,7 +115,7 @@ read-list-loop-holds : (t : ℕ) → of-list list.Need-loop-holds t
 read-list-loop-holds t c =
     let st = c .before .before in
     let a = st .args in
-    went-none (a .tape .now) (a .depth) (within (a .style) (a .name)) (a .ws .now) (a .st) (st .pre .1 .0 .on) (st .pre .1 .0 .few)
+    went-none (a .tape .now) (a .depth) (within (a .style) (a .naming)) (a .ws .now) (a .st) (st .pre .1 .0 .on) (st .pre .1 .0 .few)
 
 read-list-fault-requires : (t : ℕ) → of-list list.Need-fault-requires t
 read-list-fault-requires t c κs = (c .if1 .taken, c .before .before .loop .inv .few)
@@ -129,14 +129,14 @@ read-list-returns t c =
     let l = f .before .before .loop in
     let a = f .before .before .before .before .before .args in (
       went-stopped (a .tape .now) (a .depth) (l .inv)
-          (stopped-fault (a .tape .now) (a .depth) (a .name) (a .style) (l .s) _ _ (f .if1 .taken) (c .before .fault .ensures) (c .if2 .taken) refl),
+          (stopped-fault (a .tape .now) (a .depth) (a .naming) (a .style) (l .s) _ _ (f .if1 .taken) (c .before .fault .ensures) (c .if2 .taken) refl),
       tt,
     )
 
 -- a command without a fault
 sound : (t : ℕ) (c : of-list list.Else2 t) → let l = c .before .before .before .before .loop in
     let a = c .before .before .before .before .before .before .before .args in
-    Sound (a .tape .now) (l .ws) (l .s) (a .name) (a .depth)
+    Sound (a .tape .now) (l .ws) (l .s) (a .naming) (a .depth)
 sound t c =
     let l = c .before .before .before .before .loop in
     let p = c .before .before .before .before .before .before .before .pre .1 .0 in
@@ -154,7 +154,7 @@ read-list-finish-requires t c κs =
     let z = c .before in
     let ok = sound t (z .before .before) in
     let few = clean _ _ _ _ _ (ok .clear) .few in
-    let none = ap (added (z .before .before .before .before .before .before .before .before .before .args .name)) (z .if3 .taken) in
+    let none = ap (added (z .before .before .before .before .before .before .before .before .before .args .naming)) (z .if3 .taken) in
     let space = ok .space in
     omega arith
 
@@ -173,7 +173,7 @@ read-list-returns-2 t c =
     let a = o .before .before .before .before .before .before .before .args in
     let ok = sound t o in (
       went-then (a .tape .now) (a .depth) (l .inv)
-          (went-command (a .tape .now) (a .depth) (a .name) (a .style) ends ok (rw (z .if3 .taken)) (rw (z .if3 .taken, add-zero) (q .finish .ensures))),
+          (went-command (a .tape .now) (a .depth) (a .naming) (a .style) ends ok (rw (z .if3 .taken)) (rw (z .if3 .taken, add-zero) (q .finish .ensures))),
       λ list d. absurd (not-outer (clean _ _ _ _ _ (ok .clear)) (z .if3 .taken) list d),
     )
 
@@ -192,11 +192,11 @@ read-list-enum-known-after t c = search needs
 read-one : (t : ℕ) (c : of-list list.After-read-segment t) {r : Step} → c .read-segment .result ≡ r →
     let l = c .before .before .before .before .before .before .before .before .loop in
     let a = c .before .before .before .before .before .before .before .before .before .before .before .args in
-    SegmentRead (a .tape .now) (l .ws) (c .read-segment .last .1 .0) (a .name) (a .depth) (l .s) (a .style) r
+    SegmentRead (a .tape .now) (l .ws) (c .read-segment .last .1 .0) (a .naming) (a .depth) (l .s) (a .style) r
 read-one t c e =
     let l = c .before .before .before .before .before .before .before .before .loop in
     let a = c .before .before .before .before .before .before .before .before .before .before .before .args in
-    subst (λ (r : Step). SegmentRead (a .tape .now) (l .ws) (c .read-segment .last .1 .0) (a .name) (a .depth) (l .s) (a .style) r) e
+    subst (λ (r : Step). SegmentRead (a .tape .now) (l .ws) (c .read-segment .last .1 .0) (a .naming) (a .depth) (l .s) (a .style) r) e
     (c .read-segment .ensures)
 
 read-list-read-letters-requires : (t : ℕ) → of-list list.Need-read-letters-requires t
@@ -211,12 +211,12 @@ read-list-read-letters-requires t c κs =
 letters : (t : ℕ) (c : of-list list.After-read-letters t) →
     let q = c .before .before .before .before .before .before .before in
     let a = q .before .before .before .before .before .before .before .before .before .before .before .args in
-    let frames = within (a .style) (a .name) in
+    let frames = within (a .style) (a .naming) in
     Went (a .tape .now) (q .read-segment .last .1 .0) (c .read-letters .last .1 .0) (a .depth) frames frames
     (c .before .before .before .after .given .0 .0) (c .read-letters .result)
 letters t c =
     let a = c .before .before .before .before .before .before .before .before .before .before .before .before .before .before .before .before .before .before .args in
-    c .read-letters .ensures .went (a .name) (a .depth)
+    c .read-letters .ensures .went (a .naming) (a .depth)
 
 read-list-loop-less : (t : ℕ) → of-list list.Need-loop-less t
 read-list-loop-less t c =
@@ -257,7 +257,7 @@ read-list-returns-4 : (t : ℕ) → of-list list.Need-returns-4 t
 read-list-returns-4 t c =
     let o = c .before .before in
     let a = o .before .before .before .before .before .args in
-    let outer = split (not (a .name)) (eqb (a .depth) 0) (sym (c .before .is-outer .ensures) ∙ c .if4 .taken) in
+    let outer = split (not (a .naming)) (eqb (a .depth) 0) (sym (c .before .is-outer .ensures) ∙ c .if4 .taken) in
     (went-outer (not-true _ (outer .0)) (eqb-true (a .depth) 0 (outer .1)) (o .before .before .loop .inv), λ list d. o .if1 .left)
 
 read-list-same-length-5 : (t : ℕ) → of-list list.Need-same-length-5 t
@@ -273,8 +273,8 @@ read-list-returns-5 t c =
     let end : l .s .at ≡ length (a .tape .now) = omega arith in
     let inner = sym (c .before .is-outer .ensures) ∙ c .if4 .left in (
       went-stopped (a .tape .now) (a .depth) (l .inv) λ around d.
-          end-from (a .tape .now) (within (a .style) (a .name) around) (l .s .at) (l .s .count) left
-          ∙ end-inside around (a .name) (l .s .at) (rw d inner)
+          end-from (a .tape .now) (within (a .style) (a .naming) around) (l .s .at) (l .s .count) left
+          ∙ end-inside around (a .naming) (l .s .at) (rw d inner)
           ∙ ap (refused 3) end,
       tt,
     )
@@ -297,7 +297,7 @@ read-segment-read-leaf-requires : (t : ℕ) → of-segment segment.Need-read-lea
 read-segment-read-leaf-requires t c κs =
     let st = c .before .before .before .before .before .before in
     let p = st .pre .1 in
-    leaf _ _ (st .args .name) _ _ (p .0) (p .1) (flat t (c .before))
+    leaf _ _ (st .args .naming) _ _ (p .0) (p .1) (flat t (c .before))
 
 read-segment-same-length : (t : ℕ) → of-segment segment.Need-same-length t
 read-segment-same-length t c = c .before .before .read-leaf .kept .1 .0
@@ -310,7 +310,7 @@ read-segment-returns t c =
     let a = st .args in
     let p = st .pre .1 in
     let at = ap (λ (x : State). x .at) (q .read-leaf .ensures .state) in
-    (went-leaf (a .tape .now) (a .depth) (a .name) _ _ (p .0) (p .1) (flat t h) (a .style) _ _ (q .read-leaf .ensures), omega arith)
+    (went-leaf (a .tape .now) (a .depth) (a .naming) _ _ (p .0) (p .1) (flat t h) (a .style) _ _ (q .read-leaf .ensures), omega arith)
 
 -- it opens a list, and stands in one
 opener : (t : ℕ) (c : of-segment segment.Else1 t) →
@@ -318,10 +318,10 @@ opener : (t : ℕ) (c : of-segment segment.Else1 t) →
     isOpener (byteOf (a .tape .now) (a .st)) ≡ true
 opener t c = sym (c .before .is-opener .ensures) ∙ not-false _ (c .if1 .left)
 
-in-list : (t : ℕ) (c : of-segment segment.Else1 t) → c .before .before .before .before .before .args .name ≡ false
+in-list : (t : ℕ) (c : of-segment segment.Else1 t) → c .before .before .before .before .before .args .naming ≡ false
 in-list t c =
     let st = c .before .before .before .before .before in
-    opens-in-list (st .args .name) (clean _ _ _ _ _ (st .pre .1 .0 .clear)) (opener t c)
+    opens-in-list (st .args .naming) (clean _ _ _ _ _ (st .pre .1 .0 .clear)) (opener t c)
 
 read-segment-add-onto : (t : ℕ) → of-segment segment.Need-add-onto t
 read-segment-add-onto t c = search needs
@@ -339,12 +339,12 @@ read-segment-onto-requires t c κs = search needs
 passed : (t : ℕ) (c : of-segment segment.After-onto t) (cm : Command) →
     let a = c .before .before .before .before .before .before .before .args in
     commandAt (a .tape .now) (a .st) ≡ cm
-    → says cm (a .style) (a .name) ≡ []
-    → Went (a .tape .now) (a .ws .now) (a .ws .now) (a .depth) (within (a .style) (a .name)) (λ around. next cm (a .style) around (a .name)) (a .st) (c .onto .result)
+    → says cm (a .style) (a .naming) ≡ []
+    → Went (a .tape .now) (a .ws .now) (a .ws .now) (a .depth) (within (a .style) (a .naming)) (λ around. next cm (a .style) around (a .naming)) (a .st) (c .onto .result)
 passed t c cm e q =
     let st = c .before .before .before .before .before .before .before in
     let a = st .args in
-    went-command (a .tape .now) (a .depth) (a .name) (a .style) cm (st .pre .1 .0) e
+    went-command (a .tape .now) (a .depth) (a .naming) (a .style) cm (st .pre .1 .0) e
     (rw (q, ← c .before .operand-width .ensures .0) (record { state = c .onto .ensures; bytes = refl }))
 
 on : (t : ℕ) (c : of-segment segment.After-onto t)
@@ -354,7 +354,7 @@ on t c = let at = ap (λ (x : State). x .at) (c .onto .ensures) in omega arith
 -- a voice's name
 named : (t : ℕ) (c : of-segment segment.Then2 t) →
     let a = c .before .before .before .before .before .before .before .before .args in
-    commandAt (a .tape .now) (a .st) ≡ voice
+    commandAt (a .tape .now) (a .st) ≡ names
 unfolding commandOf isLetter
 named t c = rw (c .if2 .taken)
 
@@ -363,7 +363,7 @@ read-segment-read-list-requires t c κs =
     let v = c .before in
     let st = v .before .before .before .before .before .before .before .before in
     let p = st .pre .1 in
-    let w = passed t (v .before) voice (named t v) refl in
+    let w = passed t (v .before) names (named t v) refl in
     let far = on t (v .before) in
     let h = p .0 .inside in
     (omega (arith, st .pre .0), (record { on = w .to; few = w .few; space = p .0 .space }, p .2))
@@ -372,17 +372,17 @@ read-segment-enum-known-named : (t : ℕ) → of-segment segment.Need-enum-known
 read-segment-enum-known-named t c = search needs
 
 -- the name was read
-name : (t : ℕ) (c : of-segment segment.After-read-list t) {r : Step} → c .read-list .result ≡ r →
+naming : (t : ℕ) (c : of-segment segment.After-read-list t) {r : Step} → c .read-list .result ≡ r →
     let a = c .before .before .before .before .before .before .before .before .before .before .args in
-    Reads (a .tape .now) (a .ws .now) (c .read-list .last .1 .0) (a .depth) (within (a .style) (a .name)) (past (a .style) true) (a .st) r × Onward (a .st) r
-name t c e =
+    Reads (a .tape .now) (a .ws .now) (c .read-list .last .1 .0) (a .depth) (within (a .style) (a .naming)) (past (a .style) true) (a .st) r × Onward (a .st) r
+naming t c e =
     let v = c .before .before in
     let a = c .before .before .before .before .before .before .before .before .before .before .args in
     let r = c .read-list .result in
     subst
-    (λ (x : Step). Reads (a .tape .now) (a .ws .now) (c .read-list .last .1 .0) (a .depth) (within (a .style) (a .name)) (past (a .style) true) (a .st) x × Onward (a .st) x)
+    (λ (x : Step). Reads (a .tape .now) (a .ws .now) (c .read-list .last .1 .0) (a .depth) (within (a .style) (a .naming)) (past (a .style) true) (a .st) x × Onward (a .st) x)
     e (
-      then-reads (a .tape .now) (a .depth) (past (a .style) true) _ r (passed t (v .before) voice (named t v) refl) (c .read-list .ensures .0),
+      then-reads (a .tape .now) (a .depth) (past (a .style) true) _ r (passed t (v .before) names (named t v) refl) (c .read-list .ensures .0),
       onward (a .tape .now) (a .depth) _ _ _ _ (a .st) _ r (on t (v .before)) (c .read-list .ensures .0),
     )
 
@@ -403,7 +403,7 @@ read-segment-read-list-requires-2 t c κs =
     let q = c .before .before .before .before .before .before in
     let v = q .before .before in
     let st = v .before .before .before .before .before .before .before .before in
-    let n = name t q (c .before .before .named .given .1) in
+    let n = naming t q (c .before .before .named .given .1) in
     let far = n .1 in
     let h = st .pre .1 .0 .inside in
     let space = st .pre .1 .0 .space in
@@ -425,9 +425,9 @@ read-segment-returns-2 t c =
     let v = q .before .before in
     let a = v .before .before .before .before .before .before .before .before .args in
     let r = l .read-list2 .result in
-    let n = name t q (l .before .before .before .named .given .1) in
+    let n = naming t q (l .before .before .before .named .given .1) in
     let inner = inner-reads (a .tape .now) (a .depth) (within (a .style) false) (past (a .style) false) _ _ _ (a .style) r (l .read-list2 .ensures .0) in (
-      then-reads (a .tape .now) (a .depth) (within (a .style) (a .name)) _ r (n .0) (rw (in-list t (v .before .before .before)) inner),
+      then-reads (a .tape .now) (a .depth) (within (a .style) (a .naming)) _ r (n .0) (rw (in-list t (v .before .before .before)) inner),
       onward (a .tape .now) (a .depth) _ _ _ _ (a .st) _ r (n .1) inner,
     )
 
@@ -435,7 +435,7 @@ read-segment-same-length-3 : (t : ℕ) → of-segment segment.Need-same-length-3
 read-segment-same-length-3 t c = c .before .before .before .before .before .read-list .kept .1 .0
 
 read-segment-returns-3 : (t : ℕ) → of-segment segment.Need-returns-3 t
-read-segment-returns-3 t c = name t (c .before .before .before .before .before) (c .before .number .given .1)
+read-segment-returns-3 t c = naming t (c .before .before .before .before .before) (c .before .number .given .1)
 
 read-segment-style-inside-requires : (t : ℕ) → of-segment segment.Need-style-inside-requires t
 read-segment-style-inside-requires t c κs =
@@ -455,7 +455,7 @@ read-segment-add-read-list-2 t c =
 -- a list opens
 opened : (t : ℕ) (c : of-segment segment.Else2 t) → let a = c .before .before .before .before .before .before .before .before .args in
     let o = openerOf (byteOf (a .tape .now) (a .st)) (restOf (a .tape .now) (a .st)) in
-    Went (a .tape .now) (a .ws .now) (a .ws .now) (a .depth) (within (a .style) (a .name)) (λ around. next (opens o) (a .style) around (a .name)) (a .st) (c .before .onto .result)
+    Went (a .tape .now) (a .ws .now) (a .ws .now) (a .depth) (within (a .style) (a .naming)) (λ around. next (opens o) (a .style) around (a .naming)) (a .st) (c .before .onto .result)
 opened t c =
     let a = c .before .before .before .before .before .before .before .before .args in
     let o = openerOf (byteOf (a .tape .now) (a .st)) (restOf (a .tape .now) (a .st)) in
@@ -482,7 +482,7 @@ read-segment-returns-4 t c =
     let r = l .read-list3 .result in
     let style = i .style-inside .result in
     let inner = inner-reads (a .tape .now) (a .depth) (within style false) (past style false) _ _ _ (a .style) r (l .read-list3 .ensures .0) in (
-      then-reads (a .tape .now) (a .depth) (within (a .style) (a .name)) _ r (opened t e) (rw (in-list t (e .before .before .before), ← i .style-inside .ensures) inner),
+      then-reads (a .tape .now) (a .depth) (within (a .style) (a .naming)) _ r (opened t e) (rw (in-list t (e .before .before .before), ← i .style-inside .ensures) inner),
       onward (a .tape .now) (a .depth) _ _ _ _ (a .st) _ r (on t (e .before)) inner,
     )
 

@@ -5,7 +5,7 @@ use Prim.Native.Nat.{ℕ, _+_}
 use borrow.Author.Needs.{needs}
 use native.Mathlib.Omega.{arith}
 use Rattle.tape.specs.declared.State.{State}
-use Rattle.tape.specs.Command.{isLetter, added, Command, text, timestamp, commandOf}
+use Rattle.tape.specs.Command.{isLetter, added, Command, shows, timeMark, commandOf}
 use Rattle.tape.specs.Tape.{says}
 use Rattle.tape.specs.Reading.{Wrote, LeafRead, byteOf, commandAt}
 use Rattle.tape.proofs.Commands.{else-letter, letter-command, letter-adds}
@@ -41,7 +41,7 @@ empty-text-requires c κs = search needs
 returns : tie.Need-returns
 unfolding commandOf
 returns c =
-    leaf (c .before .before) (text []) (rw (c .before .if1 .taken)) (record { state = c .empty-text .ensures; bytes = refl })
+    leaf (c .before .before) (shows []) (rw (c .before .if1 .taken)) (record { state = c .empty-text .ensures; bytes = refl })
 
 put-requires : tie.Need-put-requires
 unfolding added
@@ -55,7 +55,7 @@ unfolding commandOf isLetter
 returns-2 c =
     let p = c .before .before in
     let t = p .before .before in
-    leaf (t .before .before) (text (0x0a ∷ [])) (rw (t .if2 .taken)) (p .put .ensures)
+    leaf (t .before .before) (shows (0x0a ∷ [])) (rw (t .if2 .taken)) (p .put .ensures)
 
 onto-requires : tie.Need-onto-requires
 onto-requires c κs = search needs
@@ -63,7 +63,7 @@ onto-requires c κs = search needs
 returns-3 : tie.Need-returns-3
 unfolding commandOf isLetter
 returns-3 c =
-    leaf (c .before .before .before .before) timestamp (rw (c .before .if3 .taken)) (record { state = c .onto .ensures; bytes = refl })
+    leaf (c .before .before .before .before) timeMark (rw (c .before .if3 .taken)) (record { state = c .onto .ensures; bytes = refl })
 
 -- else it is a letter
 letter : (c : tie.Else3) →
@@ -90,9 +90,9 @@ returns-4 : tie.Need-returns-4
 returns-4 c =
     let p = c .before .before in
     let e = p .before .before .before in
-    let is : command (c .before .before .before .before .before .before .before .before .before .before .before .before) ≡ text (p .before .code-point .result ∷ []) =
-    letter-command _ _ (letter e) ∙ ap (λ (v : ℕ). text (v ∷ [])) (sym (p .before .code-point .ensures .0)) in
-    leaf (e .before .before .before) (text (p .before .code-point .result ∷ [])) is (p .put2 .ensures)
+    let is : command (c .before .before .before .before .before .before .before .before .before .before .before .before) ≡ shows (p .before .code-point .result ∷ []) =
+    letter-command _ _ (letter e) ∙ ap (λ (v : ℕ). shows (v ∷ [])) (sym (p .before .code-point .ensures .0)) in
+    leaf (e .before .before .before) (shows (p .before .code-point .result ∷ [])) is (p .put2 .ensures)
 
 pub read-leaf-spec : {M : Type 1} → statement M
 read-leaf-spec =

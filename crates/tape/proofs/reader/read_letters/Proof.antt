@@ -7,8 +7,8 @@ use borrow.Author.Tests.{not-true, not-false}
 use lib.ListN.{length}
 use Rattle.tape.specs.declared.State.{State}
 use Rattle.tape.specs.Reading.{within, WentOn}
-use Rattle.tape.proofs.Short.{ShortLetter, short-letter, short-read}
-use Rattle.tape.proofs.Went.{wrote-length, went-none, went-then}
+use Rattle.tape.proofs.ShortLetters.{ShortLetter, short-letter, short-read}
+use Rattle.tape.proofs.TapeParts.{wrote-length, went-none, went-then}
 use Rattle.tape.proofs.reader.read_letters.Statement.{statement}
 use Rattle.tape.proofs.reader.read_letters.Tie as tie
 
@@ -22,7 +22,7 @@ loop-holds : tie.Need-loop-holds Inv-loop μ-loop
 loop-holds c =
     let st = c .before .before in
     let a = st .args in
-    λ name depth. went-none (a .tape .now) depth (within (a .style) name) (a .ws .now) (a .st) (st .pre .on) (st .pre .few)
+    λ naming depth. went-none (a .tape .now) depth (within (a .style) naming) (a .ws .now) (a .st) (st .pre .on) (st .pre .few)
 
 is-short-letter-requires : tie.Need-is-short-letter-requires Inv-loop μ-loop
 is-short-letter-requires c κs = let to = c .before .before .loop .inv false 0 .to in omega arith
@@ -91,10 +91,10 @@ loop-again c =
     let space = e .before .before .before .before .before .before .before .pre .space in
     let v = p .before .wide .ensures .0 in
     let byte = p .before .wide .ensures .1 in
-    λ name depth.
-    went-then (a .tape .now) depth (l .inv name depth)
+    λ naming depth.
+    went-then (a .tape .now) depth (l .inv naming depth)
     (short-read (a .tape .now) (l .ws) (l .after) (short e) (omega arith) (omega arith) (a .style)
-    (rw (v, w .operand-width .ensures .0) at (p .put .ensures)) name depth)
+    (rw (v, w .operand-width .ensures .0) at (p .put .ensures)) naming depth)
 
 same-length-2 : tie.Need-same-length-2 Inv-loop μ-loop
 same-length-2 c = wrote-length (c .before .before .loop .inv false 0 .stored)

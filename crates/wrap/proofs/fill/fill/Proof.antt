@@ -5,8 +5,8 @@ use lib.ListN.{length}
 use Rattle.tape.specs.Command.{mostLetters}
 use Rattle.tape.specs.Stored.{codeAt}
 use Rattle.wrap.specs.Filled.{Sane}
-use Rattle.wrap.proofs.Bounds.{sane-on, sane-break}
-use Rattle.wrap.proofs.Passing.{Sofar, start-sane, pass-none, pass-break, pass-token, pass-end}
+use Rattle.wrap.proofs.CursorBounds.{sane-on, sane-break}
+use Rattle.wrap.proofs.LettersPassed.{Sofar, start-sane, pass-none, pass-break, pass-token, pass-end}
 use Rattle.wrap.proofs.fill.fill.Statement.{statement}
 use Rattle.wrap.proofs.fill.fill.Tie as tie
 

@@ -3,8 +3,8 @@ use Prim.Native.Nat.{_-_, _≤_}
 use native.Mathlib.Omega.{arith}
 use lib.ListN.{length}
 use Rattle.wrap.specs.Filled.{Ready}
-use Rattle.wrap.proofs.Bounds.{ready-on}
-use Rattle.wrap.proofs.Breaking.{Sofar, break-goes, break-ends}
+use Rattle.wrap.proofs.CursorBounds.{ready-on}
+use Rattle.wrap.proofs.HardBreaks.{Sofar, break-goes, break-ends}
 use Rattle.wrap.proofs.fill.hard_break.Statement.{statement}
 use Rattle.wrap.proofs.fill.hard_break.Tie as tie
 

@@ -1,7 +1,7 @@
 use native.Mathlib.Omega.{arith}
 use Rattle.tape.specs.Command.{mostLetters}
-use Rattle.wrap.proofs.Bounds.{sane-on}
-use Rattle.wrap.proofs.Breaking.{chunk-sane, chunk-turns}
+use Rattle.wrap.proofs.CursorBounds.{sane-on}
+use Rattle.wrap.proofs.HardBreaks.{chunk-sane, chunk-turns}
 use borrow.Author.Needs.{needs}
 use Rattle.wrap.proofs.fill.put_chunk.Statement.{statement}
 use Rattle.wrap.proofs.fill.put_chunk.Tie as tie

@@ -2,8 +2,8 @@ use mathlib.Core.Path.{_∙_, sym, subst}
 use mathlib.Core.Bool.{Bool}
 use native.Mathlib.Omega.{arith}
 use Rattle.wrap.specs.Filled.{Closed}
-use Rattle.wrap.proofs.Bounds.{ready-on}
-use Rattle.wrap.proofs.Choosing.{Put, token-none, token-sane, token-drops, token-places}
+use Rattle.wrap.proofs.CursorBounds.{ready-on}
+use Rattle.wrap.proofs.TokenRules.{Put, token-none, token-sane, token-drops, token-places}
 use borrow.Author.Needs.{needs}
 use Rattle.wrap.proofs.fill.put_token.Statement.{statement}
 use Rattle.wrap.proofs.fill.put_token.Tie as tie
@@ -54,8 +54,8 @@ same-length-2 c = search needs
 returns-2 : tie.Need-returns-2
 returns-2 c = token-drops (put (c .before .before)) (sym (c .before .drops .ensures) ∙ c .if2 .taken)
 
-place-requires : tie.Need-place-requires
-place-requires c κs =
+add-or-break-requires : tie.Need-add-or-break-requires
+add-or-break-requires c κs =
     let p = put (c .before .before .before) in
     let q = c .before .before .before .before .before .before .before in
     (ready-on (p .ready) _ _ (p .ready .some) (omega arith) (token-sane p) (q .close-if .kept .1 .0), q .before .before .before .before .visible-cols .ensures .0)
@@ -66,7 +66,7 @@ same-length-3 c = search needs
 returns-3 : tie.Need-returns-3
 returns-3 c =
     let e = c .before .before .before .before in
-    token-places (put (e .before .before)) (sym (e .before .drops .ensures) ∙ e .if2 .left) (c .before .before .place .ensures)
+    token-places (put (e .before .before)) (sym (e .before .drops .ensures) ∙ e .if2 .left) (c .before .before .add-or-break .ensures)
 
 pub put-token-spec : {M : Type 1} → statement M
 put-token-spec =
@@ -81,6 +81,6 @@ put-token-spec =
     drops-requires
     same-length-2
     returns-2
-    place-requires
+    add-or-break-requires
     same-length-3
     returns-3)

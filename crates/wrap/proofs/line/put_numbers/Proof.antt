@@ -6,7 +6,7 @@ use lib.ListN.{length}
 use lib.Seq.{sets}
 use Rattle.wrap.specs.Wrap.{two, twos}
 use Rattle.wrap.specs.Filled.{between}
-use Rattle.wrap.proofs.Bytes.{write-none, write-more}
+use Rattle.wrap.proofs.TableBytes.{write-none, write-more}
 use Rattle.wrap.proofs.line.put_numbers.Statement.{statement}
 use Rattle.wrap.proofs.line.put_numbers.Tie as tie
 

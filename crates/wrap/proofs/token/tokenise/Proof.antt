@@ -9,14 +9,14 @@ use Rattle.wrap.specs.Lines as Lines
 use Rattle.wrap.specs.Laid.{Holds}
 use Rattle.wrap.specs.Filled.{between, more, endOf}
 use Rattle.wrap.proofs.Lists.{between-none}
-use Rattle.wrap.proofs.Steps.{scan-stops, scan-goes}
+use Rattle.wrap.proofs.LoopTurns.{scan-stops, scan-goes}
 use Rattle.wrap.proofs.token.tokenise.Statement.{statement}
 use Rattle.wrap.proofs.token.tokenise.Tie as tie
 
 abbrev Inv-loop : tie.InvT-loop
 Inv-loop ws i count blank j₀ j =
     (i < j) × (j ≤ count)
-    × ((ls : List Letter) → count ≡ length ls → Holds ls ws → j + more ls (Lines.blank ls i) (between j (length ls)) ≡ endOf ls i)
+    × ((ls : List Letter) → count ≡ length ls → Holds ls ws → j + more ls (Lines.isBlankLetter ls i) (between j (length ls)) ≡ endOf ls i)
 
 abbrev μ-loop : tie.MeasureT-loop
 μ-loop ws i count blank j₀ j = count - j
@@ -75,7 +75,7 @@ returns-2 c =
       λ ls e h.
           let q : l .j ≡ length ls = omega arith in
           let so-far = l .inv .2 ls e h in
-          let none : more ls (Lines.blank ls (a .i)) (between (l .j) (length ls)) ≡ 0 = rw (q, between-none (length ls)) refl in
+          let none : more ls (Lines.isBlankLetter ls (a .i)) (between (l .j) (length ls)) ≡ 0 = rw (q, between-none (length ls)) refl in
           omega arith,
     )
 

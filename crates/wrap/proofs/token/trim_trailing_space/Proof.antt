@@ -8,7 +8,7 @@ use Rattle.wrap.specs.Lines.{withoutLast, trimTrailingSpace}
 use Rattle.wrap.specs.Laid.{Holds}
 use Rattle.wrap.specs.Filled.{between}
 use Rattle.wrap.proofs.Lists.{between-none}
-use Rattle.wrap.proofs.Steps.{trim-stops, trim-goes}
+use Rattle.wrap.proofs.LoopTurns.{trim-stops, trim-goes}
 use Rattle.wrap.proofs.token.trim_trailing_space.Statement.{statement}
 use Rattle.wrap.proofs.token.trim_trailing_space.Tie as tie
 

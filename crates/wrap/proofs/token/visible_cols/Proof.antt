@@ -9,7 +9,7 @@ use Rattle.wrap.specs.Lines.{visibleCols}
 use Rattle.wrap.specs.Laid.{Holds}
 use Rattle.wrap.specs.Filled.{between, Wide}
 use Rattle.wrap.proofs.Lists.{between-none}
-use Rattle.wrap.proofs.Steps.{columns-more}
+use Rattle.wrap.proofs.LoopTurns.{columns-more}
 use Rattle.wrap.proofs.token.visible_cols.Statement.{statement}
 use Rattle.wrap.proofs.token.visible_cols.Tie as tie
 

@@ -27,23 +27,30 @@ pub fn command(words: &[String]) -> Outcome {
     if options.budget.is_some() && options.stripes.is_none() {
         return Err(args::usage("burn", "--budget needs --stripes"));
     }
-    let tape = input::tape()?;
-    let mut picture = options.settings.new_picture();
-    burn(&options, &tape, &mut picture).map_err(|refusal| refused(&options, &tape, refusal))?;
+    let (_, picture) = frame(&options)?;
     output::write(&pam(&options.settings, &picture))
 }
 
-fn burn(options: &Options, tape: &[u8], picture: &mut [u8]) -> captions::Result<()> {
+/// How many strokes the cue of the tape has that is read, and its picture.
+pub fn frame(options: &Options) -> Result<(u32, Vec<u8>), Failure> {
+    let tape = input::tape()?;
+    let mut picture = options.settings.new_picture();
+    let drawn = burn(options, &tape, &mut picture);
+    let strokes = drawn.map_err(|refusal| refused(options, &tape, refusal))?;
+    Ok((strokes, picture))
+}
+
+fn burn(options: &Options, tape: &[u8], picture: &mut [u8]) -> captions::Result<u32> {
     let mut workspace = Workspace::new();
     let Some(height) = options.stripes else {
-        return draw(&options.settings, tape, &mut workspace, picture).map(drop);
+        return draw(&options.settings, tape, &mut workspace, picture);
     };
     let mut job = Job::open(&options.settings, tape, &mut workspace, picture, height)?;
     let budget = options.budget.unwrap_or(u32::MAX);
     let mut progress = Progress::new();
     let done = stripes(&mut job, &mut workspace, budget, &mut progress);
     progress.clear();
-    done
+    done.map(|()| job.total())
 }
 
 /// Does all strokes, stripe by stripe from the top; the budget is 1 at least, so that each Work does

@@ -12,6 +12,11 @@ usage: captions lines [--columns L] [--text] < cue.tape
 Writes the word `lines` and how many there are; then of each line its index,
 letters and columns. A refused tape gives the word `refused`, the refusal's
 number and its place.
+
+Lines are broken as with the default color FFFFFFFF: with another, the lines
+that burn draws may be unlike these. So the tape 02 58 02 20 02 41 08 FF FF FF
+02 42 00 at 3 columns gives X and AB here, and burn, with the default color
+00FF00FF and as many columns, draws X A and B.
 ";
 
 const CHOICES: [Choice<Options>; 2] = [

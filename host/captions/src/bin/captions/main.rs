@@ -1,10 +1,12 @@
-//! The command `captions`: words as a tape, and a tape as a listing, as lines or as a frame.
+//! The command `captions`: words as a tape, and a tape as a listing, as lines, as a frame or as what an
+//! archive keeps beside it.
 
 mod args;
 mod burn;
 mod fault;
 mod hex;
 mod input;
+mod keep;
 mod lines;
 mod options;
 mod output;
@@ -18,18 +20,20 @@ use std::env;
 use std::process::ExitCode;
 
 const USAGE: &str =
-    "usage: captions text|show|lines|burn [options] < input > output; see captions --help";
+    "usage: captions text|show|lines|burn|keep [options] < input > output; see captions --help";
 
 const HELP: &str = "\
 usage: captions text                         < words.txt > cue.tape
        captions show                         < cue.tape
        captions lines [--columns L] [--text] < cue.tape
        captions burn [options]               < cue.tape > frame.pam
+       captions keep [options]               < cue.tape
 
   text     writes words, UTF-8, as a tape
   show     lists the commands of a tape, and points at its first fault
   lines    writes how a tape is broken into lines
   burn     draws the frame of a tape
+  keep     writes what an archive keeps beside a tape
 
 `captions SUBCOMMAND --help` says more of each, and `captions --version` gives
 the version.
@@ -38,11 +42,12 @@ the version.
 
 type Subcommand = fn(&[String]) -> Outcome;
 
-const SUBCOMMANDS: [(&str, Subcommand); 4] = [
+const SUBCOMMANDS: [(&str, Subcommand); 5] = [
     ("text", text::command),
     ("show", show::command),
     ("lines", lines::command),
     ("burn", burn::command),
+    ("keep", keep::command),
 ];
 
 fn main() -> ExitCode {

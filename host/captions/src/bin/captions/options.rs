@@ -1,4 +1,4 @@
-//! The options of `captions burn`.
+//! The options of `captions burn`, and of `captions keep`, which has the settings alone.
 
 use crate::args::Choice;
 use captions::{Align, LINE_HEIGHT_MAX, SIDE_MAX, Settings};
@@ -41,6 +41,9 @@ impl Options {
             .collect()
     }
 }
+
+/// How many of the choices are settings; those behind them say how a frame is drawn.
+pub const SETTINGS: usize = 8;
 
 pub const CHOICES: [Choice<Options>; 10] = [
     Choice {

@@ -1,7 +1,7 @@
 use native.Mathlib.Omega.{arith}
 use Rattle.wrap.specs.Filled.{between}
 use Rattle.wrap.proofs.Lists.{length-between}
-use Rattle.wrap.proofs.Holding.{held-add}
+use Rattle.wrap.proofs.CursorHolds.{held-add}
 use borrow.Author.Needs.{needs}
 use Rattle.wrap.proofs.line.Cursor.add.Statement.{statement}
 use Rattle.wrap.proofs.line.Cursor.add.Tie as tie

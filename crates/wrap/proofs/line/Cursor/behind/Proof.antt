@@ -1,7 +1,7 @@
 use mathlib.Core.Path.{_≡_, _∙_, ap}
 use native.Mathlib.Omega.{arith}
 use Rattle.wrap.specs.Filled.{between}
-use Rattle.wrap.proofs.Behind.{sane-behind, behind-none, behind-some, behind-all}
+use Rattle.wrap.proofs.CursorBehind.{sane-behind, behind-none, behind-some, behind-all}
 use borrow.Author.Needs.{needs}
 use Rattle.wrap.proofs.line.Cursor.behind.Statement.{statement}
 use Rattle.wrap.proofs.line.Cursor.behind.Tie as tie

@@ -2,10 +2,10 @@ use mathlib.Core.Path.{_∙_, refl, ap}
 use mathlib.Core.List.{List}
 use Prim.Native.Nat.{ℕ, _+_, _*_, _-_}
 use lib.Seq.{sets}
-use Rattle.tape.proofs.Stores.{sets-append}
+use Rattle.tape.proofs.StoredRuns.{sets-append}
 use Rattle.wrap.specs.Wrap.{two}
 use Rattle.wrap.specs.Laid.{tableFrom}
-use Rattle.wrap.proofs.Holding.{held-close}
+use Rattle.wrap.proofs.CursorHolds.{held-close}
 use borrow.Author.Needs.{needs}
 use Rattle.wrap.proofs.line.Cursor.close.Statement.{statement}
 use Rattle.wrap.proofs.line.Cursor.close.Tie as tie

@@ -1,4 +1,4 @@
-use Rattle.wrap.proofs.Cols.{zero-test}
+use Rattle.wrap.proofs.ColumnCounts.{zero-test}
 use borrow.Author.Needs.{needs}
 use Rattle.wrap.proofs.line.Cursor.drops.Statement.{statement}
 use Rattle.wrap.proofs.line.Cursor.drops.Tie as tie

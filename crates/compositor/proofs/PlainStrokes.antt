@@ -1,0 +1,199 @@
+-- Strokes, offsets and displacements in signed numbers are those of the parts Paint, Slant and Outline; and every stroke of a caption stands where
+-- the law of strokes holds. So no difference stops at 0, but beside a test that fails.
+use mathlib.Core.Path.{_≡_, _∙_, refl, sym, ap, ap₂}
+use mathlib.Core.Bool.{Bool, true, false, cond}
+use mathlib.Core.List.{List, [], _∷_, _++_, map, flatten}
+use Prim.Native.Nat.{ℕ, zero, suc, _+_, _-_, _*_, _/_, _≤_, _<_}
+use native.Mathlib.Omega.{arith}
+use native.Mathlib.Nat.{mul-le-mul}
+use borrow.Author.Tests.{lt-ltb, le-ltb, ltb-true, ltb-false, le-leb, lt-leb}
+use lib.Dec.{ltb, eqb, leb}
+use lib.ListN.{length, getD}
+use lib.IntN.{ℤ, pos, negsuc, subℕ, _+ℤ_, _-ℤ_}
+use Rattle.font.specs.Font.{cellW, cellH, bearingY, tabulate}
+use Rattle.font.specs.Slant.{rowOffset, rowOffsets}
+use Rattle.font.specs.Paint.{origin, lit, paintColumn, paintColumns, strokeRow}
+use Rattle.font.proofs.EveryEntry.{Each, each}
+use Rattle.font.proofs.Columns.{column-left}
+use Rattle.font.proofs.Rows.{stroke-on, stroke-above, stroke-below}
+use Rattle.tape.specs.Command.{mostLetters}
+use Rattle.tape.specs.Runs.{Letter}
+use Rattle.wrap.specs.Lines.{Line, letterOf, visibleCols, wrapRuns}
+use Rattle.wrap.proofs.Narrow.{narrow}
+use Rattle.wrap.proofs.FewLines.{few-lines}
+use Rattle.compositor.specs.declared.Settings.{Settings}
+use Rattle.compositor.specs.Layout.{columnLimit, lineHeight, baseLine, lineWidth, sideMargin, lineStart}
+use Rattle.compositor.specs.Order.{Stroke, outlineStrokes, glyphStrokes, letterStrokes, lineStrokes, linesStrokes, drawing}
+use Rattle.compositor.specs.Picture.{strokeOn}
+use Rattle.compositor.specs.Ready.{InRange, mostLines}
+use Rattle.compositor.specs.Outline.{mostOutline, outlineOf, displacementRow, displacementRows, displacements}
+use Rattle.compositor.specs.Plain.{signed, plainOffset, plainDisplacements, plainColumn, plainColumns, plainGlyphRow, plainStrokeRow}
+use Rattle.compositor.proofs.Plain.{from-above, from-below, is-sub, by-size, sub-same, add-sub, minus-sub, is-signed}
+
+-- ---- columns
+
+column-inside : (k : List ℕ) (x : ℕ) (row : List ℕ) → origin ≤ x → paintColumn k x row ≡ plainColumn k (pos (x - origin)) row
+unfolding paintColumn
+column-inside k x row h = rw (le-leb origin x h)
+
+column-plain : (k : List ℕ) (x : ℕ) (row : List ℕ) → paintColumn k x row ≡ plainColumn k (signed x) row
+column-plain k x row =
+    by-size x origin _
+    (λ h. column-inside k x row h ∙ sym (ap (λ (z : ℤ). plainColumn k z row) (is-signed x ∙ from-above x origin h)))
+    (λ h. column-left k x row h ∙ sym (ap (λ (z : ℤ). plainColumn k z row) (is-signed x ∙ from-below x origin h)))
+
+-- n columns further right
+signed-add : (x n : ℕ) → signed x +ℤ pos n ≡ signed (x + n)
+signed-add x n =
+    ap₂ (λ (u v : ℤ). u +ℤ v) (is-signed x) (sym (from-above n 0 (omega arith) ∙ ap pos less))
+    ∙ add-sub x origin n 0 ∙ sub-same (x + n) (origin + 0) (x + n) origin (omega arith) ∙ sym (is-signed (x + n))
+  where
+    less : n - 0 ≡ n
+    less = omega arith
+
+columns-plain : (k : List ℕ) (bits x n : ℕ) (row : List ℕ) → paintColumns k bits x n row ≡ plainColumns k bits (signed x) n row
+unfolding paintColumns
+columns-plain k bits x zero row = refl
+columns-plain k bits x (suc n) row =
+    let ih = columns-plain k bits x n row in
+    let here : paintColumn k (x + n) (paintColumns k bits x n row) ≡ plainColumn k (signed x +ℤ pos n) (plainColumns k bits (signed x) n row) =
+    column-plain k (x + n) (paintColumns k bits x n row) ∙ ap₂ (plainColumn k) (sym (signed-add x n)) ih in
+    ap₂ (λ (u v : List ℕ). cond (lit bits n) u v) here ih
+
+-- ---- offsets
+
+abbrev Offset : Bool → ℕ → Type 0
+Offset italic r = pos (getD (rowOffsets italic) r 0) -ℤ pos 8 ≡ plainOffset italic r
+
+pub offset-plain : (italic : Bool) (r : ℕ) → r < cellH → Offset italic r
+unfolding tabulate
+offset-plain true r h =
+    each (Offset true) 16
+    (refl, (refl, (refl, (refl, (refl, (refl, (refl, (refl, (refl, (refl, (refl, (refl, (refl, (refl, (refl, (refl, tt)))))))))))))))) r h
+offset-plain false r h =
+    each (Offset false) 16
+    (refl, (refl, (refl, (refl, (refl, (refl, (refl, (refl, (refl, (refl, (refl, (refl, (refl, (refl, (refl, (refl, tt)))))))))))))))) r h
+
+-- ---- displacements
+
+abbrev Displaced : ℕ → Type 0
+Displaced o = map (λ d. (pos (d .0) -ℤ pos o, pos (d .1) -ℤ pos o)) (displacements o) ≡ plainDisplacements o
+
+pub displacements-plain : (o : ℕ) → o ≤ mostOutline → Displaced o
+unfolding displacements displacementRows displacementRow flatten
+displacements-plain o h = each Displaced 3 (refl, (refl, (refl, tt))) o (omega arith)
+
+-- ---- a stroke
+
+module _ (rows : List ℕ) (italic : Bool) (k : List ℕ) (x base y : ℕ) (row : List ℕ) (wide : 8 ≤ x) (high : bearingY ≤ base) where
+  -- the glyph's row that falls on row y
+  falls : pos (y + bearingY) -ℤ signed base ≡ subℕ (y + bearingY + origin) base
+  falls = ap (λ (z : ℤ). pos (y + bearingY) -ℤ z) (is-signed base) ∙ minus-sub (y + bearingY) base origin
+
+  -- where it begins
+  begins : (r : ℕ) → r < cellH → signed (x + getD (rowOffsets italic) r 0 - 8) ≡ signed x +ℤ plainOffset italic r
+  begins r h =
+      let off = getD (rowOffsets italic) r 0 in
+      is-signed (x + off - 8) ∙ sub-same (x + off - 8) origin (x + off) (origin + 8) (omega arith) ∙ sym (add-sub x origin off 8)
+      ∙ ap₂ (λ (u v : ℤ). u +ℤ v) (sym (is-signed x)) (sym (is-sub off 8) ∙ offset-plain italic r h)
+
+  -- row r of the glyph, where it has one, falls on row y
+  on-row : (r : ℕ) → origin + y ≡ base - bearingY + r
+      → strokeRow rows (rowOffsets italic) k x base y row ≡ plainGlyphRow rows italic k (signed x) (pos r) row
+  on-row r e =
+      by-size r cellH _
+      (λ h. stroke-below rows (rowOffsets italic) k x base y row (omega arith) ∙ sym (rw (le-ltb r cellH h)))
+      (λ h.
+      stroke-on rows (rowOffsets italic) k x base y row r h e
+      ∙ columns-plain k (getD rows r 0) (x + getD (rowOffsets italic) r 0 - 8) cellW row
+      ∙ ap (λ (z : ℤ). plainColumns k (getD rows r 0) z cellW row) (begins r h)
+      ∙ sym (rw (lt-ltb r cellH h)))
+
+  pub stroke-plain : strokeRow rows (rowOffsets italic) k x base y row ≡ plainStrokeRow rows italic k (signed x) (signed base) y row
+  stroke-plain =
+      by-size (y + bearingY + origin) base _
+      (λ h.
+      let r = y + bearingY + origin - base in
+      on-row r (omega arith) ∙ sym (ap (λ (z : ℤ). plainGlyphRow rows italic k (signed x) z row) (falls ∙ from-above (y + bearingY + origin) base h)))
+      (λ h.
+      stroke-above rows (rowOffsets italic) k x base y row (omega arith)
+      ∙ sym (ap (λ (z : ℤ). plainGlyphRow rows italic k (signed x) z row) (falls ∙ from-below (y + bearingY + origin) base h)))
+
+-- ---- every stroke of a caption stands where that holds
+
+pub record Placed (t : Stroke) : Type 0 where
+  pub italic : Bool
+  pub slants : t .offsets ≡ rowOffsets italic
+  pub wide : 8 ≤ t .x
+  pub high : bearingY ≤ t .base
+
+pub placed-plain : (t : Stroke) (p : Placed t) (y : ℕ) (row : List ℕ)
+    → strokeOn t y row ≡ plainStrokeRow (t .rows) (p .italic) (t .color) (signed (t .x)) (signed (t .base)) y row
+placed-plain t p y row =
+    ap (λ (offsets : List ℕ). strokeRow (t .rows) offsets (t .color) (t .x) (t .base) y row) (p .slants)
+    ∙ stroke-plain (t .rows) (p .italic) (t .color) (t .x) (t .base) y row (p .wide) (p .high)
+
+abbrev pub AllPlaced : List Stroke → Type 0
+AllPlaced [] = Unit
+AllPlaced (t ∷ ts) = Placed t × AllPlaced ts
+
+placed-append : (a b : List Stroke) → AllPlaced a → AllPlaced b → AllPlaced (a ++ b)
+placed-append [] b p q = q
+placed-append (t ∷ a) b p q = (p .0, placed-append a b (p .1) q)
+
+placed-outline : (rows : List ℕ) (italic : Bool) (k : List ℕ) (o x base : ℕ) → 16 ≤ x → 16 ≤ base → o ≤ 2 → (ds : List (ℕ × ℕ))
+    → AllPlaced (outlineStrokes rows (rowOffsets italic) k o x base ds)
+placed-outline rows italic k o x base h j l [] = tt
+placed-outline rows italic k o x base h j l (d ∷ ds) =
+    (record { italic = italic; slants = refl; wide = omega arith; high = omega arith }, placed-outline rows italic k o x base h j l ds)
+
+module _ (s : Settings) where
+  placed-letter : (l : Letter) (x base : ℕ) → 16 ≤ x → 16 ≤ base → AllPlaced (letterStrokes s l x base)
+  unfolding glyphStrokes
+  placed-letter l x base h j =
+      placed-append (outlineStrokes _ _ _ (outlineOf s) x base (displacements (outlineOf s))) _
+      (placed-outline _ (l .style .italic) _ (outlineOf s) x base h j (omega arith) (displacements (outlineOf s)))
+      (record { italic = l .style .italic; slants = refl; wide = omega arith; high = omega arith }, tt)
+
+  placed-line : (ls : List Letter) (x base : ℕ) → 16 ≤ x → 16 ≤ base → AllPlaced (lineStrokes s x base ls)
+  unfolding lineStrokes
+  placed-line [] x base h j = tt
+  placed-line (l ∷ ls) x base h j =
+      placed-append (letterStrokes s l x base) _ (placed-letter l x base h j) (placed-line ls (x + cellW) base (omega arith) j)
+
+  module _ (range : InRange s) (ls : List Letter) where
+    start-far : (w : ℕ) → w ≤ 4096 → 16 ≤ lineStart s w
+    unfolding lineStart
+    start-far w h = by (eqb (s .align) 0) (leb (s .align) 2)
+      where
+        by : (centre left : Bool) → 16 ≤ cond centre (origin + (s .width - w) / 2 - (w - s .width) / 2)
+            (cond left (origin + sideMargin) (origin + s .width - w - sideMargin))
+        by true left = omega arith
+        by false true = omega arith
+        by false false = omega arith
+
+    base-far : (below : ℕ) → below ≤ mostLines → 16 ≤ baseLine s below
+    unfolding baseLine
+    base-far below h =
+        let tall : lineHeight s ≤ 1024 = let l = range .lines in omega arith in
+        let rise : below * lineHeight s ≤ 4097 * 1024 = mul-le-mul h tall in
+        omega arith
+
+    placed-lines : (lines : List Line) → length lines ≤ mostLines → ((i : ℕ) → visibleCols ls (getD lines i []) ≤ columnLimit s)
+        → AllPlaced (linesStrokes s ls lines)
+    unfolding linesStrokes
+    placed-lines [] few narrow = tt
+    placed-lines (line ∷ below) few narrow =
+        let wide = range .narrow in
+        let columns = narrow 0 in
+        let x = lineStart s (lineWidth (visibleCols ls line)) in
+        let base = baseLine s (length below) in
+        placed-append (lineStrokes s x base (map (letterOf ls) line)) (linesStrokes s ls below)
+        (placed-line (map (letterOf ls) line) x base (start-far (lineWidth (visibleCols ls line)) (omega arith)) (base-far (length below) (omega arith)))
+        (placed-lines below (omega arith) (λ i. narrow (suc i)))
+
+    pub drawing-placed : length ls ≤ mostLetters → AllPlaced (drawing s ls)
+    unfolding drawing
+    drawing-placed h =
+        let few = few-lines ls (columnLimit s) (omega arith) in
+        placed-lines (wrapRuns ls (columnLimit s)) (omega arith) (narrow ls (columnLimit s) (omega arith))

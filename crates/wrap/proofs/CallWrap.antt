@@ -1,0 +1,153 @@
+-- All lines: where they lie, and then at the workspace's front; and what the call comes to.
+use mathlib.Core.Path.{_≡_, _∙_, refl, sym, ap, ap₂, subst}
+use mathlib.Core.Bool.{Bool, true, false, _||_, true≢false}
+use mathlib.Core.List.{List, [], _++_, flatten, append-nil}
+use Prim.Native.Nat.{ℕ, _+_, _*_, _≤_, _<_}
+use native.Mathlib.Omega.{arith}
+use borrow.Author.Tests.{lt-ltb, le-ltb}
+use lib.ListN.{length, take, replicate, length-append}
+use lib.Seq.{sets, slice}
+use Rattle.tape.specs.declared.Style.{Style}
+use Rattle.tape.specs.declared.Answer.{Answer}
+use Rattle.tape.specs.Command.{mostLetters}
+use Rattle.tape.specs.Call.{nothing}
+use Rattle.tape.specs.Runs.{Letter}
+use Rattle.tape.specs.Style.{defaultWith}
+use Rattle.tape.specs.Outcome.{Outcome, onAccepted}
+use Rattle.tape.specs.Tape.{leastRoom, tapeRead}
+use Rattle.tape.proofs.Answers.{Read, letters-fit}
+use Rattle.tape.proofs.Calls.{Refuses, refuses, accepts}
+use Rattle.tape.proofs.StoredLetters.{letter-is}
+use Rattle.wrap.specs.declared.line.Cursor.{Cursor}
+use Rattle.wrap.specs.declared.Lines.{Lines}
+use Rattle.wrap.specs.Lines.{Line, Filling, upFrom, noLetter, withoutLast, logicalLines, noLines, filled, isEmptyLine, wrapRuns}
+use Rattle.wrap.specs.Wrap.{mostColumns, captionOf, wrapCall, twos, lineTable}
+use Rattle.wrap.specs.Laid.{numbersFrom, tableFrom, Holds, Laid, Brought}
+use Rattle.wrap.specs.Filled.{done, Held}
+use Rattle.wrap.specs.Wrapped.{Wrapped}
+use Rattle.wrap.proofs.Lists.{last-front, last-short, last-all}
+use Rattle.wrap.proofs.AllShown.{fill-ended}
+use Rattle.wrap.proofs.TableBytes.{length-twos, length-table, take-table, slice-after, slice-less, front-two}
+
+-- ---- where they lie
+
+module _ (ls : List Letter) (limit lines : ℕ) (c : Cursor) (ws : List ℕ) (held : Held ls (filled ls limit) c ws)
+    (left : (ds : List Line) → c .lines ≡ length ds → slice tableFrom (tableFrom + 4 * c .lines) ws ≡ lineTable ls ds
+    → lines ≡ length (withoutLast isEmptyLine ds)) where
+  abbrev f : Filling
+  f = filled ls limit
+
+  count : lines ≡ length (wrapRuns ls limit)
+  unfolding wrapRuns
+  count = left (done ls f) (ap (λ (x : Cursor). x .lines) (held .cursor)) (held .table)
+
+  ended : f .line ≡ []
+  ended = fill-ended ls limit (logicalLines ls (upFrom 0 (length ls))) noLines refl
+
+  all : flatten (done ls f) ++ f .line ≡ flatten (wrapRuns ls limit)
+  unfolding wrapRuns
+  all = ap (λ (x : Line). flatten (done ls f) ++ x) ended ∙ append-nil (flatten (done ls f)) ∙ sym (last-all (done ls f))
+
+  letters : c .end ≡ length (flatten (wrapRuns ls limit))
+  letters =
+      ap (λ (x : Cursor). x .end) (held .cursor)
+      ∙ sym (length-append (flatten (done ls f)) (f .line))
+      ∙ ap length all
+
+  table : slice tableFrom (tableFrom + 4 * length (wrapRuns ls limit)) ws ≡ lineTable ls (wrapRuns ls limit)
+  unfolding wrapRuns
+  table =
+      let n : c .lines ≡ length (done ls f) = ap (λ (x : Cursor). x .lines) (held .cursor) in
+      let short = last-short isEmptyLine (done ls f) in
+      slice-less ws tableFrom (4 * length (wrapRuns ls limit)) (4 * c .lines) (omega arith)
+      ∙ ap (take (4 * length (wrapRuns ls limit))) (held .table)
+      ∙ take-table ls (length (wrapRuns ls limit)) (done ls f)
+      ∙ ap (lineTable ls) (last-front isEmptyLine (done ls f))
+
+  pub laid : Laid ls limit (record { lines = lines; letters = c .end }) ws
+  laid =
+      record {
+        letters = held .letters;
+        lines =
+            record {
+              numbers =
+                  ap (λ (x : ℕ). slice numbersFrom (numbersFrom + 2 * x) ws) (sym letters)
+                  ∙ held .numbers
+                  ∙ ap twos all;
+              table = table;
+            };
+        count = count;
+        onLines = letters;
+      }
+
+-- ---- at the front
+
+module _ (ls : List Letter) (limit : ℕ) (made : Lines) (ws : List ℕ) (laid : Laid ls limit made ws)
+    (few : made .lines ≤ mostLetters + 1) (short : made .letters ≤ mostLetters) (room : leastRoom ≤ length ws) where
+  pub brought : (ws2 ws3 : List ℕ) → ws2 ≡ sets ws 0 (slice tableFrom (tableFrom + 4 * made .lines) ws)
+      → ws3 ≡ sets ws2 (4 * made .lines) (slice numbersFrom (numbersFrom + 2 * made .letters) ws2)
+      → Brought ls limit (made .lines) ws3
+  brought ws2 ws3 e2 e3 =
+      let r : List Line = wrapRuns ls limit in
+      let t : List ℕ = lineTable ls r in
+      let v : List ℕ = twos (flatten r) in
+      let lt : length t ≡ 4 * made .lines = length-table ls r ∙ ap (λ (x : ℕ). 4 * x) (sym (laid .count)) in
+      let lv : length v ≡ 2 * made .letters = length-twos (flatten r) ∙ ap (λ (x : ℕ). 2 * x) (sym (laid .onLines)) in
+      let table : ws2 ≡ sets ws 0 t =
+      e2 ∙ ap (λ (x : ℕ). sets ws 0 (slice tableFrom (tableFrom + 4 * x) ws)) (laid .count) ∙ ap (sets ws 0) (laid .lines .table) in
+      let numbers : slice numbersFrom (numbersFrom + 2 * made .letters) ws2 ≡ v =
+      ap (slice numbersFrom (numbersFrom + 2 * made .letters)) table
+      ∙ slice-after t ws 0 numbersFrom (numbersFrom + 2 * made .letters) (omega arith)
+      ∙ ap (λ (x : ℕ). slice numbersFrom (numbersFrom + 2 * x) ws) (laid .onLines)
+      ∙ laid .lines .numbers in
+      let at : 4 * made .lines ≡ 0 + length t = omega arith in
+      record {
+        count = laid .count;
+        bytes =
+            ap (take (length (t ++ v)))
+            (e3 ∙ ap₂ (λ (x y : List ℕ). sets x (4 * made .lines) y) table numbers ∙ ap (λ (x : ℕ). sets (sets ws 0 t) x v) at)
+            ∙ front-two t v ws (omega arith);
+      }
+
+-- ---- the call
+
+pub or-none : (a b : Bool) → (a || b) ≡ false → (a ≡ false) × (b ≡ false)
+or-none true b e = absurd (true≢false e)
+or-none false b e = (refl, e)
+
+abbrev pub white : Style
+white = defaultWith (replicate 4 0xff)
+
+module _ (tape ws : List ℕ) (limit : ℕ) where
+  pub too-low : limit < 1 → Wrapped tape ws ws limit (Answer.Refused 8 0)
+  unfolding wrapCall
+  too-low h = refuses (rw (lt-ltb limit 1 h)) (λ _. refl)
+
+  pub too-high : 1 ≤ limit → mostColumns < limit → Wrapped tape ws ws limit (Answer.Refused 8 0)
+  unfolding wrapCall
+  too-high low h = refuses (rw (le-ltb limit 1 low, lt-ltb mostColumns limit h)) (λ _. refl)
+
+  module _ (low : 1 ≤ limit) (high : limit ≤ mostColumns) where
+    admitted : {o : Outcome (List Letter)} → tapeRead white (length ws) tape ≡ o → wrapCall limit (length ws) tape ≡ onAccepted (captionOf limit) o
+    unfolding wrapCall
+    admitted e = rw (le-ltb limit 1 low, le-ltb mostColumns limit high, e)
+
+    pub tape-refused : {ws' : List ℕ} {number place : ℕ} → Refuses (tapeRead white (length ws) tape) nothing nothing ws ws' number place
+        → Wrapped tape ws ws' limit (Answer.Refused number place)
+    tape-refused r = refuses (admitted (r .means)) (r .keeps)
+
+    pub wrapped : {ws1 : List ℕ} {n : ℕ} (a : Read tape ws ws1 white n) (lines : ℕ) (ws' : List ℕ) → Brought (a .given) limit lines ws'
+        → Wrapped tape ws ws' limit (Answer.Accepted lines)
+    wrapped a lines ws' b = accepts (admitted (a .means)) (b .count) refl (b .bytes)
+
+-- the workspace holds the letters that were read
+pub letters-held : (s : Style) (tape ws : List ℕ) {ws' : List ℕ} {n : ℕ} (a : Read tape ws ws' s n) → Holds (a .given) ws'
+letters-held s tape ws a =
+    let n = a .counts in
+    let fit = letters-fit s tape ws a in
+    let few = fit .few in
+    let room = fit .enough in
+    record {
+      few = few;
+      letter = λ k h. rw (a .holds) (sym (letter-is ws (a .given) (omega arith) noLetter k h));
+    }

@@ -1,0 +1,19 @@
+-- WHAT LINES KEEP: document 01, "Runs and lines", its last sentence. Definitions only.
+-- It is proved that `shown` of all letters and `shown` of the letters on lines are the same: those that are neither
+-- space, tab, break nor control stand on the lines, once each and in order. It is proved too that no line has over L
+-- columns.
+use mathlib.Core.Bool.{Bool, _&&_, not, cond}
+use mathlib.Core.List.{List, [], _∷_}
+use Prim.Native.Nat.{ℕ}
+use Rattle.tape.specs.Runs.{Letter}
+use Rattle.wrap.specs.Columns.{isBreak, isBlank, isControl}
+use Rattle.wrap.specs.Lines.{Line, codeOf}
+
+-- neither space, tab, break nor control
+abbrev pub isShown : ℕ → Bool
+isShown c = not (isBlank c) && (not (isBreak c) && not (isControl c))
+
+-- those of a line's letters
+unfoldable pub shown : List Letter → Line → Line
+shown ls [] = []
+shown ls (k ∷ ks) = cond (isShown (codeOf ls k)) (k ∷ shown ls ks) (shown ls ks)
