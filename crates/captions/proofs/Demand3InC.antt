@@ -1,23 +1,22 @@
 -- DEMAND 3 OF THE FUNCTIONS FOR C: their histories are those of the calls beneath them.
 use mathlib.Core.Path.{_≡_, _∙_, refl, sym, ap, subst}
-use mathlib.Core.List.{List, [], _∷_, map}
+use mathlib.Core.List.{List, _∷_}
 use Prim.Native.Nat.{ℕ, _<_, _^_}
 use native.Mathlib.Omega.{arith}
 use borrow.Author.Tests.{lt-ltb}
 use lib.ListN.{length}
 use Rattle.tape.specs.declared.Answer.{Answer}
 use Rattle.tape.specs.Packed.{packed, unpacked}
-use Rattle.tape.proofs.Calls.{Packs, accepted-is}
-use Rattle.compositor.specs.Order.{Stroke}
+use Rattle.tape.proofs.Calls.{accepted-is}
 use Rattle.compositor.specs.Draw.{Tapes}
 use Rattle.job.specs.declared.JobRecord.{JobRecord}
 use Rattle.job.specs.Stripes.{Division}
-use Rattle.job.specs.History.{Entry, History, opened, worked}
+use Rattle.job.specs.History.{Entry, History, afterOpen, afterWork}
 use Rattle.compositor.proofs.Answers.{Few}
 use Rattle.job.proofs.Answers.{open-bounded}
 use Rattle.job.proofs.Demand3.{demand-3, possible}
 use Rattle.captions.specs.Interface.{settingsOf, recordOf, wordsOf}
-use Rattle.captions.specs.HistoryInC.{HistoryInC, openedInC, workedInC, Demand3InC, PossibleInC}
+use Rattle.captions.specs.HistoryInC.{HistoryInC, afterOpenInC, afterWorkInC, Demand3InC, PossibleInC}
 use Rattle.captions.proofs.Packing.{open-packs, work-packs}
 
 -- a small number is an answer
@@ -29,31 +28,31 @@ module _ (settings : List ℕ) (tape : Tapes) (d : Division) (bytes : List ℕ) 
   -- a history of the functions is one of the calls
   pub carried : {entries : List Entry} {picture words : List ℕ} → HistoryInC settings tape d bytes entries picture words
       → History (settingsOf settings) tape d bytes entries picture (recordOf words)
-  carried (openedInC {ws} r o l) =
+  carried (afterOpenInC {ws} r o l) =
       let back = open-packs (settingsOf settings) tape ws bytes d (o .does) .back in
-      opened r (o .does) (sym back ∙ ap unpacked (sym (o .packs)) ∙ small-answer r l)
-  carried (workedInC {entries} {ws} {picture = picture} {picture' = picture'} {words = words} {words' = words'} k n r before w) =
+      afterOpen r (o .does) (sym back ∙ ap unpacked (sym (o .packs)) ∙ small-answer r l)
+  carried (afterWorkInC {entries} {ws} {picture = picture} {picture' = picture'} {words = words} {words' = words'} k n r before w) =
       let back = work-packs (settingsOf settings) tape ws picture (recordOf words) k n (w .does) .back in
       subst
       (λ (a : Answer). History (settingsOf settings) tape d bytes (record { stripe = k; budget = n; room = length ws; answer = a } ∷ entries) picture' (recordOf words'))
       (sym back ∙ ap unpacked (sym (w .packs)))
-      (worked k n (carried before) (w .does))
+      (afterWork k n (carried before) (w .does))
 
   -- and the other way round
   pub carried-back : {entries : List Entry} {picture : List ℕ} {job : JobRecord} → History (settingsOf settings) tape d bytes entries picture job
       → HistoryInC settings tape d bytes entries picture (wordsOf job)
-  carried-back (opened {ws} {r = r} total o e) =
+  carried-back (afterOpen {ws} {r = r} total o e) =
       let found = accepted-is o e in
       let few : Few (found .given) = rw (found .means) at (open-bounded (settingsOf settings) (length ws) (length bytes) tape d) in
       let count = found .counts in
       let low : packed (r .answer) < 2 ^ 32 = rw e (omega arith) in
-      openedInC (packed (r .answer)) (record { answer = r .answer; does = o; packs = refl }) low
-  carried-back (worked {entries} {ws} {picture = picture} {picture' = picture'} {job = job} {r = r} k n before w) =
+      afterOpenInC (packed (r .answer)) (record { answer = r .answer; does = o; packs = refl }) low
+  carried-back (afterWork {entries} {ws} {picture = picture} {picture' = picture'} {job = job} {r = r} k n before w) =
       let back = work-packs (settingsOf settings) tape ws picture job k n w .back in
       subst
       (λ (a : Answer). HistoryInC settings tape d bytes (record { stripe = k; budget = n; room = length ws; answer = a } ∷ entries) picture' (wordsOf (r .job)))
       back
-      (workedInC k n (packed (r .answer)) (carried-back before) (record { answer = r .answer; does = w; packs = refl }))
+      (afterWorkInC k n (packed (r .answer)) (carried-back before) (record { answer = r .answer; does = w; packs = refl }))
 
 pub demand-3-in-c : Demand3InC
 demand-3-in-c settings tape d bytes entries picture words history =

@@ -17,9 +17,9 @@ use Rattle.captions.specs.Interface.{settingsOf, recordOf, OpenAnswered,
 -- picture's buffer and the record as the call before it left them, and Open's settings and tape. A call's answer is
 -- what its number stands for; an accepted one is below 2^32.
 pub data HistoryInC (settings : List ℕ) (tape : Tapes) (d : Division) (bytes : List ℕ) : List Entry → List ℕ → List ℕ → Type 0 where
-  openedInC : {ws ws' picture words : List ℕ} (result : ℕ) → OpenAnswered settings tape ws ws' bytes picture d words result → result < 2 ^ 32
+  afterOpenInC : {ws ws' picture words : List ℕ} (result : ℕ) → OpenAnswered settings tape ws ws' bytes picture d words result → result < 2 ^ 32
       → HistoryInC settings tape d bytes [] picture words
-  workedInC : {entries : List Entry} {ws ws' picture picture' words words' : List ℕ} (k n result : ℕ)
+  afterWorkInC : {entries : List Entry} {ws ws' picture picture' words words' : List ℕ} (k n result : ℕ)
       → HistoryInC settings tape d bytes entries picture words → WorkAnswered settings tape ws ws' picture picture' words words' k n result
       → HistoryInC settings tape d bytes (record { stripe = k; budget = n; room = length ws; answer = unpacked result } ∷ entries) picture' words'
 

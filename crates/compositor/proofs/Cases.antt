@@ -7,11 +7,11 @@ use lib.ListN.{length, getD, replicate}
 use Rattle.font.specs.Blend.{blendByte, blendAlpha, blendOver, blendPixel}
 use Rattle.font.specs.Font.{embolden, tabulate, regularTable}
 use Rattle.font.specs.Paint.{origin, paintColumn, paintColumns, strokeRow}
-use Rattle.tape.specs.Outcome.{Outcome, accepted, refused, onAccepted}
+use Rattle.tape.specs.Outcome.{accepted, refused, onAccepted}
 use Rattle.tape.specs.Style.{sameStyle}
 use Rattle.tape.specs.Command.{codePoint, isLetter, isOpener, isScalar, added, faultOf, commandOf}
 use Rattle.tape.specs.Runs.{mergeInto, lettersOf}
-use Rattle.tape.specs.Tape.{leastRoom, read, tapeRuns, tapeLetters, tapeRead}
+use Rattle.tape.specs.Tape.{leastRoom, read, tapeRuns, tapeLetters, readCall}
 use Rattle.tape.specs.Segments.{letterBytes, lettersBytes}
 use Rattle.wrap.specs.Lines.{Line, upFrom, withoutLast, visibleCols, logicalLines, tokenise, isSpaceToken, chunks, putChunks, addOrBreak, putToken, putTokens, fill, wrapRuns}
 use Rattle.wrap.specs.Wrap.{wrapCall}
@@ -129,7 +129,7 @@ pub record Cases : Type 0 where
       ≡ accepted (replicate 12 0 ++ (replicate 8 255 ++ replicate 12 0))
 
 pub document-01 : Document01
-unfolding wrapCall tapeRead cueCall tapeStrokes outOfRange drawing linesStrokes lineStrokes glyphStrokes displacements displacementRows displacementRow lineStart baseLine rowAfter strokesOn strokeRow paintColumns paintColumn blendPixel blendOver blendByte blendAlpha tabulate regularTable wrapRuns visibleCols logicalLines tokenise isSpaceToken chunks putChunks addOrBreak putToken putTokens fill withoutLast upFrom flatten tapeLetters tapeRuns read faultOf commandOf codePoint isLetter isOpener isScalar added mergeInto lettersOf sameStyle letterBytes
+unfolding wrapCall readCall cueCall tapeStrokes outOfRange drawing linesStrokes lineStrokes glyphStrokes displacements displacementRows displacementRow lineStart baseLine rowAfter strokesOn strokeRow paintColumns paintColumn blendPixel blendOver blendByte blendAlpha tabulate regularTable wrapRuns visibleCols logicalLines tokenise isSpaceToken chunks putChunks addOrBreak putToken putTokens fill withoutLast upFrom flatten tapeLetters tapeRuns read faultOf commandOf codePoint isLetter isOpener isScalar added mergeInto lettersOf sameStyle letterBytes
 document-01 =
     record {
       a = (refl, refl);

@@ -2,13 +2,13 @@
 -- of lines around theirs.
 use mathlib.Core.Path.{_≡_, refl, sym, subst}
 use mathlib.Core.Bool.{Bool, true, false, cond, _||_, true≢false}
-use mathlib.Core.List.{List, [], _∷_, _++_, map-append}
+use mathlib.Core.List.{List, [], _∷_, map-append}
 use Prim.Native.Nat.{ℕ, zero, suc, _+_, _-_, _*_, _≤_, _<_}
 use native.Mathlib.Nat.{mul-le-mul-right}
 use native.Mathlib.Omega.{arith}
 use borrow.Author.Tests.{leb-true}
 use lib.Dec.{eqb, leb}
-use lib.ListN.{length, take, drop}
+use lib.ListN.{length, take}
 use Rattle.font.specs.Font.{cellW}
 use Rattle.font.specs.Paint.{origin}
 use Rattle.font.proofs.Rows.{rows-kept, stroke-above, stroke-below}
@@ -23,35 +23,20 @@ use Rattle.compositor.specs.Order.{Stroke, stroke, outlineStrokes, glyph
 use Rattle.compositor.specs.Picture.{strokeOn, strokesOn}
 use Rattle.compositor.specs.Read.{lettersAt, strokesAt}
 use Rattle.compositor.specs.Painting.{cut, after, offRows, Painted}
+use Rattle.compositor.proofs.EachStroke.{EachStroke, each-append, each-take, each-drop, each-weaken}
 
 -- ---- strokes whose base lines are at most o rows above position `high`, and below position `low`
 
-module _ (high low o : ℕ) where
-  abbrev pub Around : List Stroke → Type 0
-  Around [] = Unit
-  Around (t ∷ ts) = (high ≤ t .base + o) × (t .base ≤ low + o) × Around ts
+abbrev Within : ℕ → ℕ → ℕ → Stroke → Type 0
+Within high low o t = (high ≤ t .base + o) × (t .base ≤ low + o)
 
-  around-append : (a b : List Stroke) → Around a → Around b → Around (a ++ b)
-  around-append [] b p q = q
-  around-append (t ∷ a) b p q = (p .0, p .1, around-append a b (p .2) q)
-
-  around-take : (n : ℕ) (ts : List Stroke) → Around ts → Around (take n ts)
-  around-take zero ts p = tt
-  around-take (suc n) [] p = tt
-  around-take (suc n) (t ∷ ts) p = (p .0, p .1, around-take n ts (p .2))
-
-  around-drop : (n : ℕ) (ts : List Stroke) → Around ts → Around (drop n ts)
-  around-drop zero ts p = p
-  around-drop (suc n) [] p = tt
-  around-drop (suc n) (t ∷ ts) p = around-drop n ts (p .2)
+abbrev pub Around : ℕ → ℕ → ℕ → List Stroke → Type 0
+Around high low o = EachStroke (Within high low o)
 
 -- wider positions
 around-wider : (high low o y : ℕ) → high ≤ y → y ≤ low → (ts : List Stroke) → Around y y o ts → Around high low o ts
-around-wider high low o y h l [] p = tt
-around-wider high low o y h l (t ∷ ts) p =
-    let above = p .0 in
-    let below = p .1 in
-    (omega arith, omega arith, around-wider high low o y h l ts (p .2))
+around-wider high low o y h l =
+    each-weaken (Within y y o) (Within high low o) (λ t p. let above = p .0 in let below = p .1 in (omega arith, omega arith))
 
 -- a glyph's strokes
 module _ (y o : ℕ) (glyph offsets k : List ℕ) (x : ℕ) where
@@ -65,7 +50,7 @@ module _ (y o : ℕ) (glyph offsets k : List ℕ) (x : ℕ) where
     where
       by : (b : Bool) → Around y y o (strokes (displacementRow o dy (suc dx) n))
           → Around y y o (strokes (cond b ((dx, dy) ∷ displacementRow o dy (suc dx) n) (displacementRow o dy (suc dx) n)))
-      by true p = (omega arith, omega arith, p)
+      by true p = ((omega arith, omega arith), p)
       by false p = p
 
   rows-around : (dy n : ℕ) → dy + n ≤ 2 * o + 1 → Around y y o (strokes (displacementRows o dy n))
@@ -73,7 +58,7 @@ module _ (y o : ℕ) (glyph offsets k : List ℕ) (x : ℕ) where
   rows-around dy zero h = tt
   rows-around dy (suc n) h =
       subst (Around y y o) (sym (map-append _ (displacementRow o dy 0 (2 * o + 1)) (displacementRows o (suc dy) n)))
-      (around-append y y o (strokes (displacementRow o dy 0 (2 * o + 1))) (strokes (displacementRows o (suc dy) n))
+      (each-append (Within y y o) (strokes (displacementRow o dy 0 (2 * o + 1))) (strokes (displacementRows o (suc dy) n))
       (row-around dy 0 (2 * o + 1) (omega arith)) (rows-around (suc dy) n (omega arith)))
 
   displacements-around : Around y y o (strokes (displacements o))
@@ -86,7 +71,7 @@ module _ (y o : ℕ) (glyph offsets k : List ℕ) (x : ℕ) where
 
   glyph-around : (own : List ℕ) → Around y y o (glyphStrokes glyph offsets k own o x y)
   unfolding glyphStrokes
-  glyph-around own = around-append y y o (strokes (displacements o)) (stroke glyph offsets own x y ∷ []) displacements-around (omega arith, omega arith, tt)
+  glyph-around own = each-append (Within y y o) (strokes (displacements o)) (stroke glyph offsets own x y ∷ []) displacements-around ((omega arith, omega arith), tt)
 
 module _ (s : Settings) where
   -- a line's
@@ -94,7 +79,7 @@ module _ (s : Settings) where
   unfolding lineStrokes
   line-around x y [] = tt
   line-around x y (l ∷ ls) =
-      around-append y y (outlineOf s) (letterStrokes s l x y) (lineStrokes s (x + cellW) y ls)
+      each-append (Within y y (outlineOf s)) (letterStrokes s l x y) (lineStrokes s (x + cellW) y ls)
       (glyph-around y (outlineOf s) _ _ _ x _) (line-around (x + cellW) y ls)
 
   -- a line with more lines below it stands higher
@@ -109,7 +94,7 @@ module _ (s : Settings) where
   lines-around m (suc n) k i ws h =
       let line : List Stroke =
       lineStrokes s (lineStart s (lineWidth (columnsOn ws i))) (baseLine s n) (lettersAt ws k (lettersOn ws i)) in
-      around-append _ _ (outlineOf s) line (strokesAt s ws (k + lettersOn ws i) (suc i) n)
+      each-append (Within _ _ (outlineOf s)) line (strokesAt s ws (k + lettersOn ws i) (suc i) n)
       (around-wider _ _ (outlineOf s) (baseLine s n) (base-higher n (m - 1) (omega arith)) (base-higher 0 n (omega arith)) line
       (line-around (lineStart s (lineWidth (columnsOn ws i))) (baseLine s n) (lettersAt ws k (lettersOn ws i))))
       (lines-around m n (k + lettersOn ws i) (suc i) ws (omega arith))
@@ -135,12 +120,12 @@ module _ (rows : Rows) (high low o : ℕ) (far : 32 ≤ high) (thin : o ≤ 2) (
   all-spared : (ts : List Stroke) (j : ℕ) (row : List ℕ) → j < rows .count → Around high low o ts → strokesOn ts (rows .first + j) row ≡ row
   unfolding strokesOn
   all-spared [] j row h p = refl
-  all-spared (t ∷ ts) j row h p = rw (spared t j row h (p .0) (p .1)) (all-spared ts j row h (p .2))
+  all-spared (t ∷ ts) j row h p = rw (spared t j row h (p .0 .0) (p .0 .1)) (all-spared ts j row h (p .1))
 
   -- so whatever the window has of them, nothing changes
   pub missing : (ts : List Stroke) {n : ℕ} (w : Window) (part : List ℕ) → n ≡ length ts → Around high low o ts → Painted rows ts w part part (after w n)
   missing ts w part e p =
-      let some = around-drop high low o (w .from) (take (w .to) ts) (around-take high low o (w .to) ts p) in
+      let some = each-drop (Within high low o) (w .from) (take (w .to) ts) (each-take (Within high low o) (w .to) ts p) in
       record {
         paints =
             sym (rows-kept (strokesOn (cut w ts)) (4 * rows .width) (rows .count) (rows .first) part (λ j row h. all-spared (cut w ts) j row h some));

@@ -1,5 +1,5 @@
--- Document 01's signed formulas are `lineStart` and `baseLine`, less the origin; and the sums and differences of signed numbers that laws about
--- positions need.
+-- Document 01's signed formulas are `lineStart` and `baseLine`, less the origin; and the sums and differences of signed
+-- numbers that laws about positions need.
 use mathlib.Core.Path.{_≡_, _∙_, refl, sym, ap, ap₂}
 use mathlib.Core.Bool.{Bool, true, false, cond}
 use Prim.Native.Nat.{ℕ, zero, suc, _+_, _-_, _*_, _/_, _≤_, _<_}
@@ -66,6 +66,7 @@ minus-sub n b o =
 pub is-signed : (p : ℕ) → signed p ≡ subℕ p origin
 is-signed p = is-sub p origin
 
+-- one that is a right of the origin, or below it, and b back
 placed : (a b : ℕ) → b ≤ origin → pos (origin + a - b) -ℤ pos origin ≡ subℕ a b
 placed a b h =
     by-size a b _

@@ -1,19 +1,19 @@
--- Strokes, offsets and displacements in signed numbers are those of the parts Paint, Slant and Outline; and every stroke of a caption stands where
--- the law of strokes holds. So no difference stops at 0, but beside a test that fails.
+-- Strokes, offsets and displacements in signed numbers are those of the parts Paint, Slant and Outline; and every
+-- stroke of a caption stands where the law of strokes holds. So no difference stops at 0, but beside a test that fails.
 use mathlib.Core.Path.{_≡_, _∙_, refl, sym, ap, ap₂}
 use mathlib.Core.Bool.{Bool, true, false, cond}
-use mathlib.Core.List.{List, [], _∷_, _++_, map, flatten}
+use mathlib.Core.List.{List, [], _∷_, map, flatten}
 use Prim.Native.Nat.{ℕ, zero, suc, _+_, _-_, _*_, _/_, _≤_, _<_}
 use native.Mathlib.Omega.{arith}
 use native.Mathlib.Nat.{mul-le-mul}
-use borrow.Author.Tests.{lt-ltb, le-ltb, ltb-true, ltb-false, le-leb, lt-leb}
-use lib.Dec.{ltb, eqb, leb}
+use borrow.Author.Tests.{lt-ltb, le-ltb, le-leb}
+use lib.Dec.{eqb, leb}
 use lib.ListN.{length, getD}
-use lib.IntN.{ℤ, pos, negsuc, subℕ, _+ℤ_, _-ℤ_}
+use lib.IntN.{ℤ, pos, subℕ, _+ℤ_, _-ℤ_}
 use Rattle.font.specs.Font.{cellW, cellH, bearingY, tabulate}
-use Rattle.font.specs.Slant.{rowOffset, rowOffsets}
+use Rattle.font.specs.Slant.{rowOffsets}
 use Rattle.font.specs.Paint.{origin, lit, paintColumn, paintColumns, strokeRow}
-use Rattle.font.proofs.EveryEntry.{Each, each}
+use Rattle.font.proofs.EveryEntry.{each}
 use Rattle.font.proofs.Columns.{column-left}
 use Rattle.font.proofs.Rows.{stroke-on, stroke-above, stroke-below}
 use Rattle.tape.specs.Command.{mostLetters}
@@ -28,6 +28,7 @@ use Rattle.compositor.specs.Picture.{strokeOn}
 use Rattle.compositor.specs.Ready.{InRange, mostLines}
 use Rattle.compositor.specs.Outline.{mostOutline, outlineOf, displacementRow, displacementRows, displacements}
 use Rattle.compositor.specs.Plain.{signed, plainOffset, plainDisplacements, plainColumn, plainColumns, plainGlyphRow, plainStrokeRow}
+use Rattle.compositor.proofs.EachStroke.{EachStroke, each-append}
 use Rattle.compositor.proofs.Plain.{from-above, from-below, is-sub, by-size, sub-same, add-sub, minus-sub, is-signed}
 
 -- ---- columns
@@ -65,14 +66,15 @@ columns-plain k bits x (suc n) row =
 abbrev Offset : Bool → ℕ → Type 0
 Offset italic r = pos (getD (rowOffsets italic) r 0) -ℤ pos 8 ≡ plainOffset italic r
 
-pub offset-plain : (italic : Bool) (r : ℕ) → r < cellH → Offset italic r
+all-offsets : (r : ℕ) → r < cellH → Offset true r × Offset false r
 unfolding tabulate
-offset-plain true r h =
-    each (Offset true) 16
-    (refl, (refl, (refl, (refl, (refl, (refl, (refl, (refl, (refl, (refl, (refl, (refl, (refl, (refl, (refl, (refl, tt)))))))))))))))) r h
-offset-plain false r h =
-    each (Offset false) 16
-    (refl, (refl, (refl, (refl, (refl, (refl, (refl, (refl, (refl, (refl, (refl, (refl, (refl, (refl, (refl, (refl, tt)))))))))))))))) r h
+all-offsets =
+    each (λ r. Offset true r × Offset false r) 16
+    ((refl, refl), ((refl, refl), ((refl, refl), ((refl, refl), ((refl, refl), ((refl, refl), ((refl, refl), ((refl, refl), ((refl, refl), ((refl, refl), ((refl, refl), ((refl, refl), ((refl, refl), ((refl, refl), ((refl, refl), ((refl, refl), tt))))))))))))))))
+
+pub offset-plain : (italic : Bool) (r : ℕ) → r < cellH → Offset italic r
+offset-plain true r h = all-offsets r h .0
+offset-plain false r h = all-offsets r h .1
 
 -- ---- displacements
 
@@ -133,33 +135,25 @@ placed-plain t p y row =
     ap (λ (offsets : List ℕ). strokeRow (t .rows) offsets (t .color) (t .x) (t .base) y row) (p .slants)
     ∙ stroke-plain (t .rows) (p .italic) (t .color) (t .x) (t .base) y row (p .wide) (p .high)
 
-abbrev pub AllPlaced : List Stroke → Type 0
-AllPlaced [] = Unit
-AllPlaced (t ∷ ts) = Placed t × AllPlaced ts
-
-placed-append : (a b : List Stroke) → AllPlaced a → AllPlaced b → AllPlaced (a ++ b)
-placed-append [] b p q = q
-placed-append (t ∷ a) b p q = (p .0, placed-append a b (p .1) q)
-
 placed-outline : (rows : List ℕ) (italic : Bool) (k : List ℕ) (o x base : ℕ) → 16 ≤ x → 16 ≤ base → o ≤ 2 → (ds : List (ℕ × ℕ))
-    → AllPlaced (outlineStrokes rows (rowOffsets italic) k o x base ds)
+    → EachStroke Placed (outlineStrokes rows (rowOffsets italic) k o x base ds)
 placed-outline rows italic k o x base h j l [] = tt
 placed-outline rows italic k o x base h j l (d ∷ ds) =
     (record { italic = italic; slants = refl; wide = omega arith; high = omega arith }, placed-outline rows italic k o x base h j l ds)
 
 module _ (s : Settings) where
-  placed-letter : (l : Letter) (x base : ℕ) → 16 ≤ x → 16 ≤ base → AllPlaced (letterStrokes s l x base)
+  placed-letter : (l : Letter) (x base : ℕ) → 16 ≤ x → 16 ≤ base → EachStroke Placed (letterStrokes s l x base)
   unfolding glyphStrokes
   placed-letter l x base h j =
-      placed-append (outlineStrokes _ _ _ (outlineOf s) x base (displacements (outlineOf s))) _
+      each-append Placed (outlineStrokes _ _ _ (outlineOf s) x base (displacements (outlineOf s))) _
       (placed-outline _ (l .style .italic) _ (outlineOf s) x base h j (omega arith) (displacements (outlineOf s)))
       (record { italic = l .style .italic; slants = refl; wide = omega arith; high = omega arith }, tt)
 
-  placed-line : (ls : List Letter) (x base : ℕ) → 16 ≤ x → 16 ≤ base → AllPlaced (lineStrokes s x base ls)
+  placed-line : (ls : List Letter) (x base : ℕ) → 16 ≤ x → 16 ≤ base → EachStroke Placed (lineStrokes s x base ls)
   unfolding lineStrokes
   placed-line [] x base h j = tt
   placed-line (l ∷ ls) x base h j =
-      placed-append (letterStrokes s l x base) _ (placed-letter l x base h j) (placed-line ls (x + cellW) base (omega arith) j)
+      each-append Placed (letterStrokes s l x base) _ (placed-letter l x base h j) (placed-line ls (x + cellW) base (omega arith) j)
 
   module _ (range : InRange s) (ls : List Letter) where
     start-far : (w : ℕ) → w ≤ 4096 → 16 ≤ lineStart s w
@@ -180,7 +174,7 @@ module _ (s : Settings) where
         omega arith
 
     placed-lines : (lines : List Line) → length lines ≤ mostLines → ((i : ℕ) → visibleCols ls (getD lines i []) ≤ columnLimit s)
-        → AllPlaced (linesStrokes s ls lines)
+        → EachStroke Placed (linesStrokes s ls lines)
     unfolding linesStrokes
     placed-lines [] few narrow = tt
     placed-lines (line ∷ below) few narrow =
@@ -188,11 +182,11 @@ module _ (s : Settings) where
         let columns = narrow 0 in
         let x = lineStart s (lineWidth (visibleCols ls line)) in
         let base = baseLine s (length below) in
-        placed-append (lineStrokes s x base (map (letterOf ls) line)) (linesStrokes s ls below)
+        each-append Placed (lineStrokes s x base (map (letterOf ls) line)) (linesStrokes s ls below)
         (placed-line (map (letterOf ls) line) x base (start-far (lineWidth (visibleCols ls line)) (omega arith)) (base-far (length below) (omega arith)))
         (placed-lines below (omega arith) (λ i. narrow (suc i)))
 
-    pub drawing-placed : length ls ≤ mostLetters → AllPlaced (drawing s ls)
+    pub drawing-placed : length ls ≤ mostLetters → EachStroke Placed (drawing s ls)
     unfolding drawing
     drawing-placed h =
         let few = few-lines ls (columnLimit s) (omega arith) in

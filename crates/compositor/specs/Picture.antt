@@ -1,6 +1,6 @@
 -- WHAT STROKES LEAVE OF A PICTURE: document 01, "Places and strokes" and "Open and Work". Definitions only.
 use mathlib.Core.List.{List, [], _∷_, _++_}
-use Prim.Native.Nat.{ℕ, _*_}
+use Prim.Native.Nat.{ℕ}
 use lib.ListN.{take, drop, replicate}
 use Rattle.font.specs.Paint.{strokeRow, eachRow}
 use Rattle.compositor.specs.declared.Settings.{Settings}

@@ -49,10 +49,11 @@ mostPicture = mostPixels * (4 * mostPixels)
 abbrev pub mostRise : ℕ
 mostRise = mostLetters * mostLineHeight
 
--- no line of the table has so many pixels, since its columns are a number in two bytes; and none starts further left
+-- no line of the table has so many pixels, since its columns are a number in two bytes
 abbrev pub tooWide : ℕ
 tooWide = twoByteNumbers * cellW
 
+-- and so none starts left of this position
 abbrev pub leastStart : ℕ
 leastStart = 0x10_0000
 

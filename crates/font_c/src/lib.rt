@@ -8,6 +8,9 @@ use font::Pen;
 use font::Rows;
 use font::Spot;
 
+// The most columns, and the most rows, of a picture of which the painter is lent a part.
+const MOST_LENT: usize = 4096;
+
 // The table of the font that the bold mark picks.
 fn table(bold: bool) -> [u8; 4096]
     ensures { λ r. ⌜ r ≡ tableOf bold ⌝ }
@@ -35,18 +38,17 @@ fn is_near(x: usize) -> bool
     x < 2 * font::ORIGIN
 }
 
-// Whether n bytes hold these rows, and the position is near. 4,096 is the most columns, and the most
-// rows, of a picture of which the painter is lent a part (`mostLent` of the font).
+// Whether n bytes hold these rows, and the position is near.
 fn is_admitted(n: usize, rows: Rows, at: Spot) -> bool
     ensures { λ r. ⌜ r ≡ admitted n (rows .width) (rows .count) (rows .first) (at .x) (at .base) ⌝ }
 {
-    if 4096 < rows.width {
+    if MOST_LENT < rows.width {
         return false;
     }
-    if 4096 < rows.count {
+    if MOST_LENT < rows.count {
         return false;
     }
-    if 4096 < rows.first {
+    if MOST_LENT < rows.first {
         return false;
     }
     if !is_near(at.x) {

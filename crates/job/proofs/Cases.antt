@@ -20,7 +20,8 @@ use Rattle.compositor.proofs.Cases.{settings, AB}
 use Rattle.job.specs.Stripes.{hasStripe, stripesFault, divisionOf, countersUnsound}
 use Rattle.job.specs.Work.{openCall, stripeCall, workCall}
 
--- a job on a picture of one row in stripes of one, whose stripes have had c strokes, d and none: Work on stripe k with budget n
+-- a job on a picture of one row in stripes of one, whose stripes have had c strokes, d and none: Work on stripe k with
+-- budget n
 abbrev work : ℕ → ℕ → ℕ → ℕ → List ℕ → Outcome (List Stroke)
 work c d k n tape =
     workCall (settings 32 1 0 1 0) leastRoom 128 tape (record { «stripe_height» = 1; counters = c ∷ d ∷ replicate 62 0 }) k n

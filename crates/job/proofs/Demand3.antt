@@ -5,7 +5,7 @@
 use mathlib.Core.Path.{_≡_, _∙_, refl, sym, ap, ap₂, subst, subst₂, subst₃}
 use mathlib.Core.Bool.{Bool, true, false, cond, not, true≢false}
 use mathlib.Core.List.{List, [], _∷_, map}
-use Prim.Native.Nat.{ℕ, zero, suc, _+_, _≤_, _<_, min}
+use Prim.Native.Nat.{ℕ, _+_, _≤_, _<_, min}
 use native.Mathlib.Nat.{zero-add, add-zero}
 use native.Mathlib.Decide.{ℕ-discrete}
 use native.Mathlib.Omega.{arith}
@@ -15,7 +15,7 @@ use lib.ListN.{length, take, drop, replicate, length-replicate}
 use lib.Seq.{take-add}
 use Rattle.tape.specs.declared.Answer.{Answer}
 use Rattle.tape.specs.Outcome.{Outcome, accepted, refused, refuseIf, onAccepted, andThen}
-use Rattle.tape.specs.Call.{answerOf, changed, free}
+use Rattle.tape.specs.Call.{answerOf, changed}
 use Rattle.tape.specs.Tape.{leastRoom}
 use Rattle.tape.proofs.Calls.{accepts, happens, accepted-is}
 use Rattle.font.specs.Paint.{eachRow}
@@ -30,10 +30,9 @@ use Rattle.compositor.proofs.ClearedPicture.{picture-drawn}
 use Rattle.compositor.proofs.AcceptedCalls.{cue-fits, cue-extra, cue-strokes, cue-again}
 use Rattle.job.specs.declared.JobRecord.{JobRecord}
 use Rattle.job.specs.declared.JobAnswer.{JobAnswer}
-use Rattle.job.specs.Stripes.{Division, mostStripes, stripeOf, hasStripe, stripesFault, divisionOf, newRecord, counterOf, withCounter, countersUnsound}
-use Rattle.job.specs.Work.{openCall, opening, onStripe, stepped, stripeCall, workCall}
-use Rattle.job.specs.Worked.{Worked}
-use Rattle.job.specs.History.{rowOf, Entry, History, opened, worked, granted, budgets, count, dueOf, AllDue, PartlyDrawn, Demand3, asked, Possible}
+use Rattle.job.specs.Stripes.{Division, mostStripes, stripeOf, hasStripe, stripesFault, divisionOf, newRecord, counterOf, countersUnsound}
+use Rattle.job.specs.Work.{openCall, onStripe, stepped, stripeCall, workCall}
+use Rattle.job.specs.History.{rowOf, Entry, History, afterOpen, afterWork, granted, budgets, count, dueOf, AllDue, PartlyDrawn, Demand3, asked, Possible}
 use Rattle.job.proofs.Division.{stripe-low, stripe-there, new-division, new-length, new-counter, with-division, with-length, with-same, with-other, all-sound}
 use Rattle.job.proofs.CallWork.{strokes-done, take-taken}
 
@@ -287,7 +286,7 @@ module _ (s : Settings) (tape : Tapes) (d : Division) (bytes : List ℕ) (ts : L
 module _ (s : Settings) (tape : Tapes) (d : Division) (bytes : List ℕ) where
   all-kept : {entries : List Entry} {picture : List ℕ} {job : JobRecord} → History s tape d bytes entries picture job
       → (ts : List Stroke) × Kept s tape d bytes ts entries picture job
-  all-kept (opened {ws} total o e) =
+  all-kept (afterOpen {ws} total o e) =
       let found = accepted-is o e in
       let ts = found .given in (
         ts,
@@ -296,7 +295,7 @@ module _ (s : Settings) (tape : Tapes) (d : Division) (bytes : List ℕ) where
             (sym (ap (λ (x : List ℕ × JobRecord). x .1) (found .changes)))
             (kept-open s tape d bytes ts (length ws) (found .means)),
       )
-  all-kept (worked {entries} {ws} k n before w) =
+  all-kept (afterWork {entries} {ws} k n before w) =
       let found = all-kept before in
       let ts = found .0 in (
         ts,
@@ -325,7 +324,7 @@ possible s tape d bytes ws ts e wishes = go wishes
     go : (wishes : List (ℕ × ℕ × List ℕ)) → (entries : List Entry) × (picture : List ℕ) × (job : JobRecord)
         × History s tape d bytes entries picture job
         × (map asked entries ≡ map (λ w. (w .0, w .1, length (w .2))) wishes)
-    go [] = ([], cleared s bytes, newRecord d, opened {ws = ws} {ws' = ws} {r = first} (length ts) (accepts e refl refl tt) refl, refl)
+    go [] = ([], cleared s bytes, newRecord d, afterOpen {ws = ws} {ws' = ws} {r = first} (length ts) (accepts e refl refl tt) refl, refl)
     go (w ∷ rest) =
         let before = go rest in
         let o = workCall s (length (w .2)) (length (before .1)) tape (before .2) (w .0) (w .1) in
@@ -334,7 +333,7 @@ possible s tape d bytes ws ts e wishes = go wishes
           entryOf (w .0) (w .1) (length (w .2)) (r .answer) ∷ before .0,
           x .0,
           x .1,
-          worked {ws = w .2} {ws' = w .2} {r = r} (w .0) (w .1) (before .3) (happens o (λ us. tt)),
+          afterWork {ws = w .2} {ws' = w .2} {r = r} (w .0) (w .1) (before .3) (happens o (λ us. tt)),
           ap (λ (l : List (ℕ × ℕ × ℕ)). (w .0, w .1, length (w .2)) ∷ l) (before .4),
         )
 

@@ -1,6 +1,6 @@
 -- Divisions and records: what the history leans on; where stripes lie, and what a sound record says of its counters.
 use mathlib.Core.Path.{_≡_, _∙_, refl, sym, ap, subst}
-use mathlib.Core.Bool.{Bool, true, false, cond, _||_, true≢false}
+use mathlib.Core.Bool.{Bool, true, false, cond, _||_}
 use mathlib.Core.List.{List, [], _∷_, _++_}
 use Prim.Native.Nat.{ℕ, zero, suc, _+_, _-_, _*_, _/_, _≤_, _<_, min}
 use native.Mathlib.Nat.{add-zero, mul-le-mul-right, add-mul, div-mul-le-self, one-mul, div-eq-of-lt-le, div-lt-iff-lt-mul, le-div-iff-mul-le, lt-of-mul-lt-mul-right, lt-of-lt-of-le}

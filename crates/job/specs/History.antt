@@ -35,9 +35,9 @@ pub record Entry : Type 0 where
 -- first, with the picture's buffer and the record as they are after them. Each Work gets both as the call before it
 -- left them, and Open's settings and tape; its stripe, its budget and its workspace are any.
 pub data History (s : Settings) (tape : Tapes) (d : Division) (bytes : List ℕ) : List Entry → List ℕ → JobRecord → Type 0 where
-  opened : {ws ws' picture : List ℕ} {r : JobAnswer} (total : ℕ) → Opened s tape ws ws' bytes picture d r → r .answer ≡ Answer.Accepted total
+  afterOpen : {ws ws' picture : List ℕ} {r : JobAnswer} (total : ℕ) → Opened s tape ws ws' bytes picture d r → r .answer ≡ Answer.Accepted total
       → History s tape d bytes [] picture (r .job)
-  worked : {entries : List Entry} {ws ws' picture picture' : List ℕ} {job : JobRecord} {r : JobAnswer} (k n : ℕ)
+  afterWork : {entries : List Entry} {ws ws' picture picture' : List ℕ} {job : JobRecord} {r : JobAnswer} (k n : ℕ)
       → History s tape d bytes entries picture job → Worked s tape ws ws' picture picture' job k n r
       → History s tape d bytes (record { stripe = k; budget = n; room = length ws; answer = r .answer } ∷ entries) picture' (r .job)
 

@@ -12,7 +12,7 @@ use Rattle.tape.specs.declared.State.{State}
 use Rattle.tape.specs.declared.Answer.{Answer}
 use Rattle.tape.specs.Outcome.{Outcome, accepted, refused, onAccepted}
 use Rattle.tape.specs.Runs.{Run, merge, Letter, lettersOf}
-use Rattle.tape.specs.Tape.{mostBytes, leastRoom, after, tapeRuns, tapeLetters, tapeRead}
+use Rattle.tape.specs.Tape.{mostBytes, leastRoom, after, tapeRuns, tapeLetters, readCall}
 use Rattle.tape.specs.Marks.{last, marked}
 use Rattle.tape.specs.TapeRead.{TapeRead}
 use Rattle.tape.specs.Reading.{within, past, Went, Stopped, from}
@@ -23,12 +23,12 @@ use Rattle.tape.proofs.Answers.{read-is}
 use Rattle.tape.proofs.MeaningSteps.{end-from}
 
 pub too-long : (tape ws : List ℕ) (s : Style) → mostBytes < length tape → TapeRead tape ws ws s (Answer.Refused 10 0)
-unfolding tapeRead
+unfolding readCall
 too-long tape ws s h = refuses (rw (lt-ltb mostBytes (length tape) h)) (λ k. refl)
 
 pub too-small : (tape ws : List ℕ) (s : Style) → length tape ≤ mostBytes → length ws < leastRoom
     → TapeRead tape ws ws s (Answer.Refused 11 0)
-unfolding tapeRead
+unfolding readCall
 too-small tape ws s h k = refuses (rw (le-ltb mostBytes (length tape) h, lt-ltb (length ws) leastRoom k)) (λ n. refl)
 
 abbrev pub start : Style → State

@@ -1,4 +1,5 @@
--- Tapes and what they mean, or why they are refused, by computation. Document 01's cases a to l stand in one table, in compositor's `Cases`.
+-- Tapes and what they mean, or why they are refused, by computation. Document 01's cases a to l stand in one table, in
+-- compositor's `Cases`.
 use mathlib.Core.Path.{_≡_, refl}
 use mathlib.Core.Bool.{true}
 use mathlib.Core.List.{List, [], _∷_, _++_}
@@ -10,7 +11,7 @@ use Rattle.tape.specs.Style.{boldList, italicList, colorList, inside, de
 use Rattle.tape.specs.Command.{codePoint, isLetter, isOpener, isScalar, added, faultOf, commandOf}
 use Rattle.tape.specs.Runs.{Run, run, mergeInto, lettersOf}
 use Rattle.tape.specs.Tape.{read, tapeRuns, tapeLetters}
-use Rattle.tape.specs.Segments.{letterBytes, lettersBytes}
+use Rattle.tape.specs.Segments.{letterBytes}
 
 abbrev white : Style
 white = defaultWith (0xff ∷ 0xff ∷ 0xff ∷ 0xff ∷ [])
@@ -61,7 +62,8 @@ pub record Cases : Type 0 where
   -- depth
   pub deepest : Means (nested 16 (0x02 ∷ 0x41 ∷ [])) (run white (0x41 ∷ []) ∷ [])
   pub deeper : Refuses (nested 17 (0x02 ∷ 0x41 ∷ [])) 5 16
-  -- order: 1 before 7, 7 before 2, 5 before 2, 2 before 4. 7 and 5 never meet: 5 stops the voice itself in the deepest list, and a name is no list.
+  -- order: 1 before 7, 7 before 2, 5 before 2, 2 before 4. 7 and 5 never meet: 5 stops the voice itself in the deepest
+  -- list, and a name is no list.
   pub one-seven : Refuses (0x09 ∷ 0x0c ∷ []) 1 1
   pub seven-two : Refuses (0x09 ∷ 0x08 ∷ []) 7 1
   pub five-two : Refuses (nested 16 (0x08 ∷ [])) 5 16

@@ -14,7 +14,7 @@ use Rattle.tape.specs.Outcome.{accepted, onAccepted}
 use Rattle.tape.specs.Style.{Opener, boldList, italicList, colorList, plainList, inside}
 use Rattle.tape.specs.Command.{deepest, mostLetters, operandWidth, codePoint, isLetter, isOpener, isScalar, added, Command, ends, shows, opens, names, timeMark, commandOf}
 use Rattle.tape.specs.Runs.{Run, run, merge, lettersOf}
-use Rattle.tape.specs.Tape.{Frame, frame, says, next, after, read, tapeRuns, tapeLetters, mostBytes, leastRoom, tapeRead}
+use Rattle.tape.specs.Tape.{Frame, frame, says, next, after, read, tapeRuns, tapeLetters, mostBytes, leastRoom, readCall}
 use Rattle.tape.specs.Segments.{Segment, Segments, lineBreak, group, none, _then_, walk, walkList, letterBytes, lettersBytes, nameBytes, openerBytes, written, writtenList, letterCount, letterCountList, nesting, nestingList, areScalars, isWritable, writable, writableList, Within}
 use Rattle.tape.proofs.MergeAlike.{Alike, alike-merge, alike-append, alike-trans, alike-refl, spelled, alike-spelled, alike-named}
 use Rattle.tape.proofs.Commands.{letter-command, letter-flat, letter-adds}
@@ -240,7 +240,7 @@ written-means gs s h =
 
 -- so is what a call of the reader comes to, where the tape is not too long
 pub written-read : (gs : Segments) (s : Style) (room : ℕ) → Within gs → length (writtenList gs) ≤ mostBytes → leastRoom ≤ room
-    → tapeRead s room (writtenList gs) ≡ accepted (lettersOf (merge (walkList gs s)))
-unfolding tapeRead tapeLetters
+    → readCall s room (writtenList gs) ≡ accepted (lettersOf (merge (walkList gs s)))
+unfolding readCall tapeLetters
 written-read gs s room h k l =
     rw (le-ltb mostBytes (length (writtenList gs)) k, le-ltb room leastRoom l, written-means gs s h)

@@ -9,7 +9,7 @@ use Rattle.tape.specs.declared.Style.{Style}
 use Rattle.tape.specs.declared.State.{State}
 use Rattle.tape.specs.declared.Step.{Step}
 use Rattle.tape.specs.declared.Step.the-variants.{Done, Refused}
-use Rattle.tape.specs.Outcome.{Outcome, accepted, refused}
+use Rattle.tape.specs.Outcome.{Outcome, refused}
 use Rattle.tape.specs.Command.{mostLetters, operandWidth, codePoint, isLetter, isOpener, isScalar, added, faultOf, Command, ends, commandOf}
 use Rattle.tape.specs.Runs.{Run}
 use Rattle.tape.specs.Tape.{Frame, frame, says, next, after, read}

@@ -87,5 +87,5 @@ abbrev pub refuseLengths : {A : Type 0} → List ℕ → ℕ → Outcome A → O
 refuseLengths tape room o = refuseIf (ltb mostBytes (length tape)) 10 0 (refuseIf (ltb room leastRoom) 11 0 o)
 
 -- what reading a tape into a workspace comes to: for Wrap; calls that draw look at the lengths in another place
-unfoldable pub tapeRead : Style → ℕ → List ℕ → Outcome (List Letter)
-tapeRead s room tape = refuseLengths tape room (tapeLetters s tape)
+unfoldable pub readCall : Style → ℕ → List ℕ → Outcome (List Letter)
+readCall s room tape = refuseLengths tape room (tapeLetters s tape)

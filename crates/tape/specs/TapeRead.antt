@@ -9,7 +9,7 @@ use lib.Seq.{sets}
 use Rattle.tape.specs.declared.Style.{Style}
 use Rattle.tape.specs.declared.Answer.{Answer}
 use Rattle.tape.specs.Runs.{Letter}
-use Rattle.tape.specs.Tape.{tapeRead}
+use Rattle.tape.specs.Tape.{readCall}
 use Rattle.tape.specs.Call.{nothing, Came}
 
 -- 1 for bold, 2 for italic, 4 for the start of a run, added
@@ -33,4 +33,4 @@ stored ws n ls = sets ws (8 * n) (storedLetters ls)
 -- them and is as it was behind them. Nothing else is changed.
 abbrev pub TapeRead : List ℕ → List ℕ → List ℕ → Style → Answer → Type 0
 TapeRead tape ws ws' s answer =
-    Came (tapeRead s (length ws) tape) length (λ ls. nothing) (λ ls. ws' ≡ stored ws 0 ls) nothing nothing ws ws' answer
+    Came (readCall s (length ws) tape) length (λ ls. nothing) (λ ls. ws' ≡ stored ws 0 ls) nothing nothing ws ws' answer

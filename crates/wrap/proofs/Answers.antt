@@ -11,7 +11,7 @@ use Rattle.tape.specs.declared.Answer.{Answer}
 use Rattle.tape.specs.Outcome.{Outcome, accepted, refused, onAccepted}
 use Rattle.tape.specs.Command.{mostLetters}
 use Rattle.tape.specs.Runs.{Letter}
-use Rattle.tape.specs.Tape.{leastRoom, tapeRead}
+use Rattle.tape.specs.Tape.{leastRoom, readCall}
 use Rattle.tape.proofs.Answers.{Fits, fits}
 use Rattle.tape.proofs.Calls.{Bounded, refuse-bounded, weaken, accepted-is, Packs, packs}
 use Rattle.wrap.specs.Wrap.{Caption, mostColumns, captionOf, wrapCall}
@@ -28,7 +28,7 @@ pub wrap-bounded : (limit room : ℕ) (tape : List ℕ) → Bounded (Small room)
 unfolding wrapCall
 wrap-bounded limit room tape =
     refuse-bounded (Small room) 11 (ltb limit 1 || ltb mostColumns limit) 8 _ (lit≤ tt) (lit≤ tt)
-    (λ e. own (ltb-false limit 1 (or-none (ltb limit 1) (ltb mostColumns limit) e .0)) (tapeRead white room tape) (fits white room tape))
+    (λ e. own (ltb-false limit 1 (or-none (ltb limit 1) (ltb mostColumns limit) e .0)) (readCall white room tape) (fits white room tape))
   where
     own : 1 ≤ limit → (o : Outcome (List Letter)) → Bounded (Fits tape room) 11 o → Bounded (Small room) 11 (onAccepted (captionOf limit) o)
     own one (accepted ls) f = let n = few-lines ls limit one in let few = f .few in record { few = omega arith; enough = f .enough }

@@ -1,5 +1,5 @@
 -- All lines: where they lie, and then at the workspace's front; and what the call comes to.
-use mathlib.Core.Path.{_≡_, _∙_, refl, sym, ap, ap₂, subst}
+use mathlib.Core.Path.{_≡_, _∙_, refl, sym, ap, ap₂}
 use mathlib.Core.Bool.{Bool, true, false, _||_, true≢false}
 use mathlib.Core.List.{List, [], _++_, flatten, append-nil}
 use Prim.Native.Nat.{ℕ, _+_, _*_, _≤_, _<_}
@@ -14,7 +14,7 @@ use Rattle.tape.specs.Call.{nothing}
 use Rattle.tape.specs.Runs.{Letter}
 use Rattle.tape.specs.Style.{defaultWith}
 use Rattle.tape.specs.Outcome.{Outcome, onAccepted}
-use Rattle.tape.specs.Tape.{leastRoom, tapeRead}
+use Rattle.tape.specs.Tape.{leastRoom, readCall}
 use Rattle.tape.proofs.Answers.{Read, letters-fit}
 use Rattle.tape.proofs.Calls.{Refuses, refuses, accepts}
 use Rattle.tape.proofs.StoredLetters.{letter-is}
@@ -128,11 +128,11 @@ module _ (tape ws : List ℕ) (limit : ℕ) where
   too-high low h = refuses (rw (le-ltb limit 1 low, lt-ltb mostColumns limit h)) (λ _. refl)
 
   module _ (low : 1 ≤ limit) (high : limit ≤ mostColumns) where
-    admitted : {o : Outcome (List Letter)} → tapeRead white (length ws) tape ≡ o → wrapCall limit (length ws) tape ≡ onAccepted (captionOf limit) o
+    admitted : {o : Outcome (List Letter)} → readCall white (length ws) tape ≡ o → wrapCall limit (length ws) tape ≡ onAccepted (captionOf limit) o
     unfolding wrapCall
     admitted e = rw (le-ltb limit 1 low, le-ltb mostColumns limit high, e)
 
-    pub tape-refused : {ws' : List ℕ} {number place : ℕ} → Refuses (tapeRead white (length ws) tape) nothing nothing ws ws' number place
+    pub tape-refused : {ws' : List ℕ} {number place : ℕ} → Refuses (readCall white (length ws) tape) nothing nothing ws ws' number place
         → Wrapped tape ws ws' limit (Answer.Refused number place)
     tape-refused r = refuses (admitted (r .means)) (r .keeps)
 

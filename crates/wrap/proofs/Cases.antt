@@ -1,4 +1,5 @@
--- Tapes, and what a call of Wrap makes of them, by computation. Document 01's cases a to l stand in one table, in compositor's `Cases`.
+-- Tapes, and what a call of Wrap makes of them, by computation. Document 01's cases a to l stand in one table, in
+-- compositor's `Cases`.
 use mathlib.Core.Path.{_≡_, refl}
 use mathlib.Core.List.{List, [], _∷_, _++_, flatten}
 use Prim.Native.Nat.{ℕ}
@@ -6,7 +7,7 @@ use Rattle.tape.specs.Outcome.{accepted, refused, onAccepted}
 use Rattle.tape.specs.Style.{sameStyle}
 use Rattle.tape.specs.Command.{codePoint, isLetter, isOpener, isScalar, added, faultOf, commandOf}
 use Rattle.tape.specs.Runs.{mergeInto, lettersOf}
-use Rattle.tape.specs.Tape.{leastRoom, read, tapeRuns, tapeLetters, tapeRead}
+use Rattle.tape.specs.Tape.{leastRoom, read, tapeRuns, tapeLetters, readCall}
 use Rattle.tape.specs.Segments.{letterBytes, lettersBytes}
 use Rattle.wrap.specs.Lines.{Line, upFrom, withoutLast, visibleCols, logicalLines, tokenise, isSpaceToken, chunks, putChunks, addOrBreak, putToken, putTokens, fill, wrapRuns}
 use Rattle.wrap.specs.Wrap.{wrapCall, twos, lineTable, lineBytes}
@@ -57,7 +58,7 @@ pub record Cases : Type 0 where
   pub faulty : Refuses 4 65536 (0x0c ∷ []) 1
 
 pub cases : Cases
-unfolding wrapCall wrapRuns visibleCols logicalLines tokenise isSpaceToken chunks putChunks addOrBreak putToken putTokens fill withoutLast upFrom twos lineTable flatten tapeRead tapeLetters tapeRuns read faultOf commandOf codePoint isLetter isOpener isScalar added mergeInto lettersOf sameStyle letterBytes
+unfolding wrapCall wrapRuns visibleCols logicalLines tokenise isSpaceToken chunks putChunks addOrBreak putToken putTokens fill withoutLast upFrom twos lineTable flatten readCall tapeLetters tapeRuns read faultOf commandOf codePoint isLetter isOpener isScalar added mergeInto lettersOf sameStyle letterBytes
 cases =
     record {
       table = refl;

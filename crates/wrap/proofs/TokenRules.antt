@@ -14,7 +14,7 @@ use Rattle.wrap.specs.declared.line.Cursor.{Cursor}
 use Rattle.wrap.specs.Columns.{isBlank}
 use Rattle.wrap.specs.Lines.{Filling, visibleCols, isSpaceToken, close, closeIf, addOrBreak, putToken}
 use Rattle.wrap.specs.Laid.{Holds}
-use Rattle.wrap.specs.Filled.{between, closed, Held, Sane, Ready, Closed, Turns, Wide, OneKind}
+use Rattle.wrap.specs.Filled.{between, Held, Sane, Ready, Closed, Turns, Wide, OneKind}
 use Rattle.wrap.proofs.CursorBounds.{sane-on, sane-if}
 use Rattle.wrap.proofs.LoopTurns.{code-there}
 use Rattle.wrap.proofs.HardBreaks.{Placed, line-columns}

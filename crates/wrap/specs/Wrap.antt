@@ -7,7 +7,7 @@ use lib.ListN.{length, replicate}
 use Rattle.tape.specs.Outcome.{Outcome, refuseIf, onAccepted}
 use Rattle.tape.specs.Style.{defaultWith}
 use Rattle.tape.specs.Runs.{Letter}
-use Rattle.tape.specs.Tape.{tapeRead}
+use Rattle.tape.specs.Tape.{readCall}
 use Rattle.wrap.specs.Lines.{Line, visibleCols, wrapRuns}
 
 -- a caption: its letters, and its lines
@@ -28,7 +28,7 @@ mostColumns = 4096
 -- in Draw, and a list in the default color the other way round.
 unfoldable pub wrapCall : ℕ → ℕ → List ℕ → Outcome Caption
 wrapCall L room tape =
-    refuseIf (ltb L 1 || ltb mostColumns L) 8 0 (onAccepted (captionOf L) (tapeRead (defaultWith (replicate 4 0xff)) room tape))
+    refuseIf (ltb L 1 || ltb mostColumns L) 8 0 (onAccepted (captionOf L) (readCall (defaultWith (replicate 4 0xff)) room tape))
 
 -- ---- the bytes that the workspace begins with after an accepted call
 

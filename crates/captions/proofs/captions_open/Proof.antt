@@ -1,5 +1,5 @@
 use Rattle.job.specs.Worked.{Opened}
-use Rattle.captions.specs.Interface.{settingsOf, recordOf}
+use Rattle.captions.specs.Interface.{settingsOf}
 use Rattle.captions.proofs.Packing.{open-packs}
 use borrow.Author.Needs.{needs}
 use Rattle.captions.proofs.captions_open.Statement.{statement}

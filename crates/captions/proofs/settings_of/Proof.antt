@@ -1,9 +1,4 @@
-use mathlib.Core.Path.{_≡_}
-use mathlib.Core.List.{List}
-use Prim.Native.Nat.{ℕ}
 use lib.ListN.{getD}
-use Rattle.compositor.specs.declared.Settings.{Settings}
-use Rattle.captions.specs.Interface.{settingsOf}
 use borrow.Author.Needs.{needs}
 use Rattle.captions.proofs.settings_of.Statement.{statement}
 use Rattle.captions.proofs.settings_of.Tie as tie

@@ -1,4 +1,3 @@
-use mathlib.Core.Path.{refl}
 use Rattle.tape.proofs.Calls.{refuses, accepts}
 use Rattle.compositor.proofs.AcceptedCalls.{cue-range, cue-fits}
 use borrow.Author.Needs.{needs}

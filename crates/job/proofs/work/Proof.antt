@@ -1,4 +1,3 @@
-use mathlib.Core.Path.{_≡_}
 use lib.ListN.{length}
 use Rattle.compositor.specs.Ready.{CueRead}
 use Rattle.compositor.proofs.AcceptedCalls.{cue-range, cue-fits, cue-extra}

@@ -1,5 +1,5 @@
 use mathlib.Core.Path.{_∙_, refl, sym, ap}
-use mathlib.Core.Bool.{true, false}
+use mathlib.Core.Bool.{true}
 use native.Mathlib.Omega.{arith}
 use Rattle.font.specs.declared.BitmapFont.{BitmapFont}
 use Rattle.font.specs.Font.{tableOf}

@@ -49,7 +49,7 @@ fn line(settings: &Settings) -> String {
     )
 }
 
-/// At most 255 times a sum up to 2^26, which is far below 2^64.
+/// Below 2^60: at most 255 times the sum of the numbers up to 2^26, as many as there are bytes.
 fn sum(picture: &[u8]) -> u64 {
     let bytes = (1..).zip(picture);
     bytes.map(|(number, byte)| number * u64::from(*byte)).sum()
