@@ -1,14 +1,12 @@
 -- Laws of a glyph's row painted into a picture's row.
-use mathlib.Core.Path.{_≡_, _∙_, refl, sym}
+use mathlib.Core.Path.{_≡_, _∙_, refl}
 use mathlib.Core.Bool.{Bool, true, false, cond}
-use mathlib.Core.List.{List, [], _∷_}
+use mathlib.Core.List.{List}
 use Prim.Native.Nat.{ℕ, zero, suc, _+_, _-_, _*_, _≤_, _<_}
 use native.Mathlib.Nat.{zero-div}
 use native.Mathlib.Numerals.{add-one}
-use native.Mathlib.Omega.{arith}
 use borrow.Author.Tests.{le-leb, lt-leb, eq-eqb}
 use lib.ListN.{length, getD}
-use lib.Seq.{ext-getD}
 use Rattle.font.specs.Blend.{blendPixel}
 use Rattle.font.specs.Paint.{origin, onRow, lit, paintColumn, paintColumns}
 use Rattle.font.proofs.PixelBlend.{pixel-length}
@@ -73,13 +71,3 @@ module _ (k : List ℕ) (clear : getD k 3 0 ≡ 0) where
   columns-clear bits x zero row = refl
   columns-clear bits x (suc n) row =
       rw (columns-clear bits x n row, column-clear (x + n) row) (cond-same (lit bits n) row)
-
--- a color is its four bytes
-pub four-bytes : (k : List ℕ) → length k ≡ 4 → getD k 0 0 ∷ getD k 1 0 ∷ getD k 2 0 ∷ getD k 3 0 ∷ [] ≡ k
-four-bytes k h = ext-getD 0 _ k (sym h) at where
-  at : (i : ℕ) → i < 4 → getD (getD k 0 0 ∷ getD k 1 0 ∷ getD k 2 0 ∷ getD k 3 0 ∷ []) i 0 ≡ getD k i 0
-  at zero j = refl
-  at (suc zero) j = refl
-  at (suc (suc zero)) j = refl
-  at (suc (suc (suc zero))) j = refl
-  at (suc (suc (suc (suc i)))) j = absurd (omega arith)

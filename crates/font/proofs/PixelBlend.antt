@@ -1,58 +1,70 @@
 -- Laws of a color blended into one pixel.
-use mathlib.Core.Path.{_≡_, refl}
+use mathlib.Core.Path.{_≡_, _∙_, refl, ap}
 use mathlib.Core.Bool.{Bool, true, false, cond}
-use mathlib.Core.List.{List, [], _∷_}
-use Prim.Native.Nat.{ℕ, zero, suc, _+_, _-_, _*_, _≤_, _<_, min}
+use mathlib.Core.List.{List}
+use Prim.Native.Nat.{ℕ, zero, suc, _+_, _-_, _*_, _/_, _≤_, _<_}
 use native.Mathlib.Nat.{mul-zero, mul-le-mul-right}
 use native.Mathlib.Omega.{arith}
 use lib.Dec.{eqb, eqb·suc-zero}
 use lib.ListN.{length, getD, set, length-set}
-use lib.Seq.{set-getD}
+use lib.Seq.{set-getD, getD-set-other}
 use Rattle.font.specs.Blend.{blendByte, blendAlpha, blendOver, blendPixel}
 
--- a byte times a is at most 255 times a, which bounds every sum of the blend
-pub byte-mul : (s a : ℕ) → s < 256 → s * a ≤ 255 * a
-byte-mul s a h = mul-le-mul-right a (omega arith)
-
--- a color byte needs no cap
-pub byte-small : (s a d : ℕ) → s < 256 → a < 256 → d < 256 → min 255 (blendByte s a d) ≡ blendByte s a d
-unfolding blendByte
-byte-small s a d hs ha hd =
-    let p = byte-mul s a hs in
-    let q = byte-mul d (255 - a) hd in
+-- THE ALPHA CEILING: the new alpha of a pixel never passes 255, whatever bytes the two alphas are
+pub alpha-ceiling : (a d : ℕ) → a ≤ 255 → d ≤ 255 → a + (d * (255 - a) + 127) / 255 ≤ 255
+alpha-ceiling a d ha hd =
+    let q = mul-le-mul-right (255 - a) hd in
     omega arith
 
--- alpha is a byte of 255, capped
-pub alpha-byte : (a d : ℕ) → min 255 (blendByte 255 a d) ≡ blendAlpha a d
+-- alpha mixes as a byte of 255 does
+pub alpha-byte : (a d : ℕ) → blendByte 255 a d ≡ blendAlpha a d
 unfolding blendByte blendAlpha
 alpha-byte a d = omega arith
 
--- alpha 0 gives the picture's byte back
+-- so no byte that is mixed passes 255: it is at most what a byte of 255 comes to
+pub byte-fits : (s a d : ℕ) → s ≤ 255 → a ≤ 255 → d ≤ 255 → blendByte s a d ≤ 255
+unfolding blendByte
+byte-fits s a d hs ha hd =
+    let p = mul-le-mul-right a hs in
+    let q = alpha-ceiling a d ha hd in
+    omega arith
+
+-- alpha 0 gives the picture's byte back, so that a pixel needs no test for it
 byte-clear : (s d : ℕ) → blendByte s 0 d ≡ d
 unfolding blendByte
 byte-clear s d = rw mul-zero (omega arith)
 
-alpha-clear : (d : ℕ) → d < 256 → blendAlpha 0 d ≡ d
+alpha-clear : (d : ℕ) → blendAlpha 0 d ≡ d
 unfolding blendAlpha
-alpha-clear d h = omega arith
+alpha-clear d = omega arith
 
--- a pixel needs no test for alpha 0
-over-is-pixel : (r g b a i : ℕ) (l : List ℕ) → getD l (i + 3) 0 < 256
-    → blendOver (r ∷ g ∷ b ∷ a ∷ []) i l ≡ blendPixel (r ∷ g ∷ b ∷ a ∷ []) i l
+over-is-pixel : (k : List ℕ) (i : ℕ) (l : List ℕ) → blendOver k i l ≡ blendPixel k i l
 unfolding blendOver blendPixel
-over-is-pixel r g b zero i l h = simp (byte-clear, alpha-clear (getD l (i + 3) 0) h, set-getD)
-over-is-pixel r g b (suc a) i l h = rw eqb·suc-zero
+over-is-pixel k i l = at (getD k 3 0) refl where
+  at : (a : ℕ) → getD k 3 0 ≡ a → blendOver k i l ≡ cond (eqb a 0) l (blendOver k i l)
+  at zero e = simp (e, byte-clear, alpha-clear, set-getD)
+  at (suc a) e = rw eqb·suc-zero
 
--- four bytes, each blended or written as it was, are a pixel blended or as it was
-pub pixel-of : (lit : Bool) (r g b a i : ℕ) (l : List ℕ) {v0 v1 v2 v3 : ℕ} → getD l (i + 3) 0 < 256
-    → v0 ≡ cond lit (blendByte r a (getD l i 0)) (getD l i 0)
-    → v1 ≡ cond lit (blendByte g a (getD l (i + 1) 0)) (getD l (i + 1) 0)
-    → v2 ≡ cond lit (blendByte b a (getD l (i + 2) 0)) (getD l (i + 2) 0)
-    → v3 ≡ cond lit (blendAlpha a (getD l (i + 3) 0)) (getD l (i + 3) 0)
-    → set (set (set (set l i v0) (i + 1) v1) (i + 2) v2) (i + 3) v3 ≡ cond lit (blendPixel (r ∷ g ∷ b ∷ a ∷ []) i l) l
+-- a byte written before is not in the way of one that is read behind it
+read-behind : (l : List ℕ) (i j v : ℕ) → i < j → getD (set l i v) j 0 ≡ getD l j 0
+read-behind l i j v h = getD-set-other l i j v 0 (λ e. absurd (omega (arith, e, h)))
+
+-- four bytes mixed one after the other, each into what stands there, are a pixel blended
+pub pixel-of : (k : List ℕ) (i : ℕ) (l : List ℕ) {v0 v1 v2 v3 : ℕ}
+    → v0 ≡ blendByte (getD k 0 0) (getD k 3 0) (getD l i 0)
+    → v1 ≡ blendByte (getD k 1 0) (getD k 3 0) (getD (set l i v0) (i + 1) 0)
+    → v2 ≡ blendByte (getD k 2 0) (getD k 3 0) (getD (set (set l i v0) (i + 1) v1) (i + 2) 0)
+    → v3 ≡ blendAlpha (getD k 3 0) (getD (set (set (set l i v0) (i + 1) v1) (i + 2) v2) (i + 3) 0)
+    → set (set (set (set l i v0) (i + 1) v1) (i + 2) v2) (i + 3) v3 ≡ blendPixel k i l
 unfolding blendOver
-pixel-of true r g b a i l h p0 p1 p2 p3 = rw (p0, p1, p2, p3) (over-is-pixel r g b a i l h)
-pixel-of false r g b a i l h p0 p1 p2 p3 = simp (p0, p1, p2, p3, set-getD)
+pixel-of k i l {v0} {v1} {v2} p0 p1 p2 p3 =
+    let mixed : ℕ → ℕ → ℕ = λ n d. blendByte (getD k n 0) (getD k 3 0) d in
+    let one = read-behind l i (i + 1) v0 (omega arith) in
+    let two = read-behind (set l i v0) (i + 1) (i + 2) v1 (omega arith) ∙ read-behind l i (i + 2) v0 (omega arith) in
+    let three =
+    read-behind (set (set l i v0) (i + 1) v1) (i + 2) (i + 3) v2 (omega arith)
+    ∙ (read-behind (set l i v0) (i + 1) (i + 3) v1 (omega arith) ∙ read-behind l i (i + 3) v0 (omega arith)) in
+    rw (p0, p1 ∙ ap (mixed 1) one, p2 ∙ ap (mixed 2) two, p3 ∙ ap (blendAlpha (getD k 3 0)) three) (over-is-pixel k i l)
 
 pub pixel-length : (k : List ℕ) (i : ℕ) (l : List ℕ) → length (blendPixel k i l) ≡ length l
 unfolding blendPixel blendOver

@@ -1,7 +1,7 @@
--- Blending a color into a pixel: document 01, "Blend, alpha a > 0 ..". Definitions only.
+-- Blending a color into a pixel: document 01, "Blend, alpha a > 0 ..", and document 02, S-8. Definitions only.
 use mathlib.Core.Bool.{cond}
 use mathlib.Core.List.{List}
-use Prim.Native.Nat.{ℕ, _+_, _-_, _*_, _/_, min}
+use Prim.Native.Nat.{ℕ, _+_, _-_, _*_, _/_}
 use lib.Dec.{eqb}
 use lib.ListN.{getD, set}
 
@@ -9,9 +9,10 @@ use lib.ListN.{getD, set}
 unfoldable pub blendByte : ℕ → ℕ → ℕ → ℕ
 blendByte s a d = (s * a + d * (255 - a) + 127) / 255
 
--- alpha a over the picture's alpha d; the sum is never over 255
+-- Alpha a over the picture's alpha d. No cap is needed: d is at most 255, so the quotient is at most 255 − a, and the
+-- sum at most 255. Alpha mixes as a color byte of 255 does: this is `blendByte 255 a d`. Both are proved.
 unfoldable pub blendAlpha : ℕ → ℕ → ℕ
-blendAlpha a d = min 255 (a + (d * (255 - a) + 127) / 255)
+blendAlpha a d = a + (d * (255 - a) + 127) / 255
 
 -- the bytes l with the color k blended into the pixel whose four bytes begin at i; a color and a pixel are red, green,
 -- blue, alpha

@@ -1,14 +1,9 @@
 -- Promises: what the painter's functions ask of the bytes that they are lent. No reader of the deposit needs this file.
-use Prim.Native.Nat.{ℕ, _+_, _-_, _*_, _≤_, _<_}
+use Prim.Native.Nat.{ℕ, _*_, _≤_, _<_}
 use Rattle.font.specs.Font.{bearingY}
 use Rattle.font.specs.Paint.{origin}
 use Rattle.font.specs.declared.paint.Rows.{Rows}
 use Rattle.font.specs.declared.paint.Spot.{Spot}
-
--- the eight columns of a glyph, the first at position x, all lie on a row of n bytes
-pub record Inside (n x : ℕ) : Type 0 where
-  pub left : origin ≤ x
-  pub right : 4 * (x - origin) + 32 ≤ n
 
 -- the most columns, and the most rows, of a picture of which the painter is lent a part
 abbrev pub mostLent : ℕ

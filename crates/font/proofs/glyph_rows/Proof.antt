@@ -10,8 +10,6 @@ use Rattle.font.specs.Font.{tabulate}
 use Rattle.font.proofs.ArrayFill.{fill-step, fill-end}
 use Rattle.font.proofs.glyph_rows.Statement.{statement}
 use Rattle.font.proofs.glyph_rows.Tie as tie
-use Rattle.font.proofs.glyph_rows.Reads as reads
-use Rattle.font.proofs.glyph_rows.Lts as lts
 
 abbrev rowAt : List ℕ → ℕ → ℕ → ℕ
 rowAt table code r = getD table (code * 16 + r) 0

@@ -2,8 +2,12 @@
 
 use crate::draw::cases::{Colors, marked};
 use crate::draw::settings::Settings;
+use crate::random::Random;
 use crate::tape::segments::MOST_LETTERS;
 use oxideav_core::Segment;
+
+/// A picture that as many letters as there may be fill.
+const FILLED: (u32, u32) = (1024, 640);
 
 const WORDS: &str = "The quick brown fox jumps over the lazy dog, and so on; ";
 
@@ -13,53 +17,77 @@ pub struct Scene {
     width: u32,
     height: u32,
     outline: u32,
-    lines: usize,
-    letters: usize,
+    text: String,
     bold_italic: bool,
 }
 
 pub fn scenes() -> Vec<Scene> {
-    let (large, small) = ((1920, 1080), (640, 360));
-    let mut scenes = vec![
-        Scene::new("two lines of 32 letters", large, 1, 2, 32),
-        Scene::new("ten lines of 40 letters, bold italic", large, 2, 10, 40),
-        Scene::new("a line of 12 letters", small, 1, 1, 12),
-    ];
-    scenes[1].bold_italic = true;
-    for outline in [1, 2] {
-        let name = "4096 letters";
-        scenes.push(Scene::new(name, (3840, 2160), outline, 1, MOST_LETTERS));
-    }
-    scenes
+    let (large, small, largest) = ((1920, 1080), (640, 360), (3840, 2160));
+    let all = || words(MOST_LETTERS);
+    vec![
+        Scene::new("two lines of 32 letters", large, 1, lines(2, 32)),
+        Scene::new("ten lines of 40 letters", large, 2, lines(10, 40)).bold_italic(),
+        Scene::new("a line of 12 letters", small, 1, words(12)),
+        Scene::new("4096 letters", largest, 1, all()),
+        Scene::new("4096 letters", largest, 2, all()),
+    ]
+}
+
+/// Cues of which each letter is one stroke, or whose letters stand in no order.
+pub fn harder_scenes() -> Vec<Scene> {
+    vec![
+        Scene::new("4096 letters", FILLED, 0, words(MOST_LETTERS)),
+        Scene::new("4096 letters at random", FILLED, 0, at_random()).bold_italic(),
+        Scene::new("4096 letters at random", FILLED, 1, at_random()).bold_italic(),
+    ]
+}
+
+/// So many letters of words.
+fn words(letters: usize) -> String {
+    WORDS.chars().cycle().take(letters).collect()
+}
+
+fn lines(count: usize, letters: usize) -> String {
+    vec![words(letters); count].join("\n")
+}
+
+/// As many letters as there may be, whose order a processor cannot foresee.
+fn at_random() -> String {
+    let mut random = Random::new(0, 0);
+    let mut letter = || random.within_u32(0x21..=0x7e);
+    (0..MOST_LETTERS)
+        .filter_map(|_| char::from_u32(letter()))
+        .collect()
 }
 
 impl Scene {
-    fn new(name: &str, size: (u32, u32), outline: u32, lines: usize, letters: usize) -> Scene {
-        let (width, height) = size;
+    fn new(name: &str, (width, height): (u32, u32), outline: u32, text: String) -> Scene {
         Scene {
             name: format!("{name}, {width} x {height}, outline {outline}"),
             width,
             height,
             outline,
-            lines,
-            letters,
+            text,
             bold_italic: false,
         }
     }
 
-    /// A picture that as many letters as there may be fill, with so many.
+    fn bold_italic(self) -> Scene {
+        Scene {
+            name: self.name.replacen(',', ", bold italic,", 1),
+            bold_italic: true,
+            ..self
+        }
+    }
+
+    /// So many letters, in a picture that as many as there may be fill.
     pub fn filling(letters: usize) -> Scene {
-        Scene::new(&format!("{letters} letters"), (1024, 640), 1, 1, letters)
+        Scene::new(&format!("{letters} letters"), FILLED, 1, words(letters))
     }
 
     pub fn segments(&self) -> Vec<Segment> {
-        let line: String = WORDS.chars().cycle().take(self.letters).collect();
-        let text = vec![line; self.lines].join("\n");
-        marked(
-            self.bold_italic,
-            self.bold_italic,
-            vec![Segment::Text(text)],
-        )
+        let text = Segment::Text(self.text.clone());
+        marked(self.bold_italic, self.bold_italic, vec![text])
     }
 
     pub fn settings(&self, [default_color, outline_color]: Colors) -> Settings {

@@ -1,7 +1,7 @@
 //! How long the proved Draw takes, beside the original on the same cues.
 
 use crate::draw::cases::{Colors, OPAQUE, TRANSLUCENT};
-use crate::draw::scenes::{Scene, scenes};
+use crate::draw::scenes::{Scene, harder_scenes, scenes};
 use crate::proved::{self, Buffers};
 use crate::tape::{ROOM, written};
 use crate::timing::{in_turn, micros};
@@ -36,7 +36,7 @@ struct Times {
 /// Two tables: frames of several kinds, and letters from few to as many as there may be.
 pub fn tables(original: &Original) -> String {
     let mut text = FRAMES.to_string();
-    for scene in scenes() {
+    for scene in scenes().into_iter().chain(harder_scenes()) {
         for (name, colors) in [("opaque", OPAQUE), ("translucent", TRANSLUCENT)] {
             let [ours, theirs] = times(&scene, original, colors);
             let _ = writeln!(

@@ -17,6 +17,7 @@ pub use specimen::specimen;
 pub fn compare(original: &Original, seed: u64, pictures: u64) -> Vec<Count> {
     let mut counts = glyphs::compare(original);
     counts.push(strokes::every_glyph(original));
+    counts.push(strokes::every_alpha(original));
     counts.push(strokes::limits(original));
     counts.push(refusals::compare(seed));
     counts.push(strokes::random(original, seed, pictures));

@@ -49,7 +49,7 @@ impl Picture {
         Ok(expected != self.bytes)
     }
 
-    fn by_original(&self, original: &Original) -> Vec<u8> {
+    pub fn by_original(&self, original: &Original) -> Vec<u8> {
         let mut bytes = self.bytes.clone();
         for stroke in &self.strokes {
             original.draw_glyph_sheared(stroke, &mut bytes, self.width, self.height);

@@ -35,6 +35,45 @@ pub fn every_glyph(original: &Original) -> Count {
     count
 }
 
+/// Every alpha of a stroke over every alpha of a picture.
+pub fn every_alpha(original: &Original) -> Count {
+    let mut count = Count::new("alphas of a stroke, each over every alpha of a picture");
+    let covered = side_by_side(OPAQUE).by_original(original);
+    count.check(match covered.chunks(4).position(|pixel| pixel != OPAQUE) {
+        None => Ok(()),
+        Some(column) => Err(format!("the strokes do not meet column {column}")),
+    });
+    for alpha in 0..=255 {
+        let [red, green, blue, _] = Random::new(0, u64::from(alpha)).color();
+        let picture = side_by_side([red, green, blue, alpha]);
+        count.check(picture.compare(original).map(|_| ()));
+    }
+    count
+}
+
+/// A row of 256 pixels, each of another alpha, and strokes side by side that each light six columns
+/// of it.
+fn side_by_side(color: [u8; 4]) -> Picture {
+    let strokes = (0..43).map(|number| Stroke {
+        ch: '_',
+        bold: false,
+        italic: false,
+        color,
+        x: 6 * number - 1,
+        y: 0,
+    });
+    let bytes = (0..=255).flat_map(|alpha| [alpha, 255 - alpha, alpha ^ 0x55, alpha]);
+    Picture {
+        width: 256,
+        height: 1,
+        bytes: bytes.collect(),
+        strokes: strokes.collect(),
+        cuts: vec![0, 1],
+        part_by_part: false,
+        further: 0,
+    }
+}
+
 /// Pictures, parts and places at the limits that the proved font still takes.
 pub fn limits(original: &Original) -> Count {
     let mut count = Count::new("pictures at the limits");

@@ -5,11 +5,11 @@ use borrow.Author.Needs.{needs}
 use Rattle.font.proofs.paint.blend_alpha.Statement.{statement}
 use Rattle.font.proofs.paint.blend_alpha.Tie as tie
 
-mix-requires : tie.Need-mix-requires
-mix-requires c κs = search needs
+blend-byte-requires : tie.Need-blend-byte-requires
+blend-byte-requires c κs = search needs
 
 returns : tie.Need-returns
-returns c = c .mix .ensures ∙ alpha-byte (c .before .args .a) (c .before .args .d)
+returns c = c .blend-byte .ensures ∙ alpha-byte (c .before .args .a) (c .before .args .d)
 
 pub blend-alpha-spec : {M : Type 1} → statement M
-blend-alpha-spec = tie.close (tie.spec mix-requires returns)
+blend-alpha-spec = tie.close (tie.spec blend-byte-requires returns)

@@ -1,18 +1,12 @@
 -- `draw_glyph_sheared` meets its contract.
-use mathlib.Core.Path.{_≡_, _∙_, sym}
+use mathlib.Core.Path.{_∙_, sym}
 use Prim.Native.Nat.{_+_, _*_}
-use lib.ListN.{length}
 use Rattle.font.specs.Paint.{strokeRow, eachRow}
 use Rattle.font.specs.Shear.{penGlyph, penOffsets, penRow}
-use Rattle.font.proofs.Columns.{four-bytes}
 use Rattle.font.proofs.Rows.{rows-kept, stroke-clear}
 use borrow.Author.Needs.{needs}
 use Rattle.font.proofs.paint.draw_glyph_sheared.Statement.{statement}
 use Rattle.font.proofs.paint.draw_glyph_sheared.Tie as tie
-
--- a color has four bytes
-four : (c : tie.Start) → length (c .args .pen .color) ≡ 4
-four c = search needs
 
 array-read-if1 : tie.Need-array-read-if1
 array-read-if1 c = search needs
@@ -23,18 +17,6 @@ returns c =
     sym
     (rows-kept (penRow (a .code) (a .pen) (a .at)) (4 * a .rows .width) (a .rows .count) (a .rows .first) (a .part .now)
     (λ j row h. stroke-clear (penGlyph (a .code) (a .pen)) (penOffsets (a .pen)) (a .pen .color) (a .at .x) (a .at .base) (a .rows .first + j) row (c .if1 .taken)))
-
-array-read-draw-rows : tie.Need-array-read-draw-rows
-array-read-draw-rows c = search needs
-
-array-read-draw-rows-2 : tie.Need-array-read-draw-rows-2
-array-read-draw-rows-2 c = search needs
-
-array-read-draw-rows-3 : tie.Need-array-read-draw-rows-3
-array-read-draw-rows-3 c = search needs
-
-array-read-draw-rows-4 : tie.Need-array-read-draw-rows-4
-array-read-draw-rows-4 c = search needs
 
 draw-rows-requires : tie.Need-draw-rows-requires
 draw-rows-requires c κs = search needs
@@ -47,7 +29,7 @@ returns-2 c =
     let start = c .before .before .before .before .before .before .before in
     let a = start .args in
     let inked = start .pre .2 in
-    rw (four-bytes (a .pen .color) (four start)) at (c .before .before .draw-rows .ensures)
+    c .before .before .draw-rows .ensures
     ∙ λ i. eachRow (strokeRow (inked .glyph-is i) (inked .offsets-are i) (a .pen .color) (a .at .x) (a .at .base)) (4 * a .rows .width) (a .rows .count)
     (a .rows .first) (a .part .now)
 
@@ -57,10 +39,6 @@ draw-glyph-sheared-spec =
     (tie.spec
     array-read-if1
     returns
-    array-read-draw-rows
-    array-read-draw-rows-2
-    array-read-draw-rows-3
-    array-read-draw-rows-4
     draw-rows-requires
     same-length
     returns-2)

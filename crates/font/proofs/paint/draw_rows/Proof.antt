@@ -1,6 +1,5 @@
 -- `draw_rows` meets its contract.
 use mathlib.Core.Path.{_≡_, _∙_, refl}
-use mathlib.Core.List.{[], _∷_}
 use Prim.Native.Nat.{_+_, _-_, _*_, _≤_, min}
 use native.Mathlib.Nat.{le-trans, le-add-right, add-sub-cancel-left}
 use native.Mathlib.Omega.{arith}
@@ -13,15 +12,15 @@ use Rattle.font.proofs.paint.draw_rows.Statement.{statement}
 use Rattle.font.proofs.paint.draw_rows.Tie as tie
 
 abbrev Inv-loop : tie.InvT-loop
-Inv-loop part₀ rows glyph offsets at red green blue alpha size top i₀ end part i =
+Inv-loop part₀ rows glyph offsets at color size top i₀ end part i =
     (min (rows .count) (top - (origin + rows .first)) ≤ i)
     × (i ≤ rows .count)
     × (end ≡ min (rows .count) (top + 16 - (origin + rows .first)))
     × (length part ≡ length part₀)
-    × Left glyph offsets (red ∷ green ∷ blue ∷ alpha ∷ []) (at .x) (at .base) size (rows .count) (rows .first) part₀ i part
+    × Left glyph offsets color (at .x) (at .base) size (rows .count) (rows .first) part₀ i part
 
 abbrev μ-loop : tie.MeasureT-loop
-μ-loop part₀ rows glyph offsets at red green blue alpha size top i₀ end part i = end - i
+μ-loop part₀ rows glyph offsets at color size top i₀ end part i = end - i
 
 mul-size : tie.Need-mul-size Inv-loop μ-loop
 mul-size c = search needs

@@ -1,62 +1,42 @@
 -- `paint_bit` meets its contract.
-use mathlib.Core.Path.{_≡_, _∙_}
-use mathlib.Core.List.{[], _∷_}
-use Prim.Native.Nat.{_+_, _-_, _*_}
-use native.Mathlib.Omega.{arith}
-use Rattle.font.specs.Blend.{blendPixel}
-use Rattle.font.specs.Paint.{origin, paintColumn}
-use Rattle.font.proofs.Columns.{column-on}
+use borrow.Author.Tests.{ne-eqb}
 use borrow.Author.Needs.{needs}
 use Rattle.font.proofs.paint.paint_bit.Statement.{statement}
 use Rattle.font.proofs.paint.paint_bit.Tie as tie
 
-sub-lit : tie.Need-sub-lit
-sub-lit c = search needs
+sub-if1 : tie.Need-sub-if1
+sub-if1 c = search needs
 
-cast-lit : tie.Need-cast-lit
-cast-lit c = search needs
+cast-if1 : tie.Need-cast-if1
+cast-if1 c = search needs
 
-shr-lit : tie.Need-shr-lit
-shr-lit c = search needs
+shr-if1 : tie.Need-shr-if1
+shr-if1 c = search needs
 
-sub-blend-pixel : tie.Need-sub-blend-pixel
-sub-blend-pixel c = search needs
+returns : tie.Need-returns
+returns c = simp (ne-eqb _ _ (c .if1 .taken))
 
-mul-blend-pixel : tie.Need-mul-blend-pixel
-mul-blend-pixel c = search needs
+add-paint-column : tie.Need-add-paint-column
+add-paint-column c = search needs
 
-mul-blend-pixel-2 : tie.Need-mul-blend-pixel-2
-mul-blend-pixel-2 c = search needs
-
-add-blend-pixel : tie.Need-add-blend-pixel
-add-blend-pixel c = search needs
-
-blend-pixel-requires : tie.Need-blend-pixel-requires
-blend-pixel-requires c κs = search needs
+paint-column-requires : tie.Need-paint-column-requires
+paint-column-requires c κs = search needs
 
 same-length : tie.Need-same-length
 same-length c = search needs
 
-returns : tie.Need-returns
-returns c =
-    let a = c .before .before .before .before .before .args in
-    let k = a .red ∷ a .green ∷ a .blue ∷ a .alpha ∷ [] in
-    let e : 4 * (a .x - origin) + 4 * a .c ≡ 4 * (a .x + a .c - origin) = omega arith in
-    let on : paintColumn k (a .x + a .c) (a .row .now) ≡ blendPixel k (4 * (a .x - origin) + 4 * a .c) (a .row .now) =
-    column-on k (a .x + a .c) (a .row .now) (omega arith) (omega arith) ∙ rw e in
-    rw on (c .before .before .blend-pixel .ensures)
+returns-2 : tie.Need-returns-2
+returns-2 c = rw (c .before .before .before .before .if1 .left) (c .before .before .paint-column .ensures)
 
 pub paint-bit-spec : {M : Type 1} → statement M
 paint-bit-spec =
     tie.close
     (tie.spec
-    sub-lit
-    cast-lit
-    shr-lit
-    sub-blend-pixel
-    mul-blend-pixel
-    mul-blend-pixel-2
-    add-blend-pixel
-    blend-pixel-requires
+    sub-if1
+    cast-if1
+    shr-if1
+    returns
+    add-paint-column
+    paint-column-requires
     same-length
-    returns)
+    returns-2)

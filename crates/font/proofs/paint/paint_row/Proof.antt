@@ -1,59 +1,66 @@
--- `paint_row` meets its contract.
-use mathlib.Core.Path.{sym}
-use Rattle.font.proofs.Columns.{columns-blank}
+-- `paint_row` meets its contract: after c turns the first c columns are painted.
+use mathlib.Core.Path.{_≡_, _∙_, refl, sym}
+use Prim.Native.Nat.{_-_, _≤_}
+use native.Mathlib.Omega.{arith}
+use lib.ListN.{length}
 use borrow.Author.Needs.{needs}
+use Rattle.font.specs.Paint.{paintColumns}
+use Rattle.font.proofs.Columns.{columns-blank, columns-step}
 use Rattle.font.proofs.paint.paint_row.Statement.{statement}
 use Rattle.font.proofs.paint.paint_row.Tie as tie
 
-returns : tie.Need-returns
+abbrev Inv-loop : tie.InvT-loop
+Inv-loop row₀ x bits color c₀ row c = (c ≤ 8) × (length row ≡ length row₀) × (row ≡ paintColumns color bits x c row₀)
+
+abbrev μ-loop : tie.MeasureT-loop
+μ-loop row₀ x bits color c₀ row c = 8 - c
+
+returns : tie.Need-returns Inv-loop μ-loop
 returns c = rw (c .if1 .taken) (sym (columns-blank _ _ _ _))
 
-paint-clipped-requires : tie.Need-paint-clipped-requires
-paint-clipped-requires c κs = search needs
+loop-holds : tie.Need-loop-holds Inv-loop μ-loop
+unfolding paintColumns
+loop-holds c = (omega arith, refl, refl)
 
-same-length : tie.Need-same-length
+paint-bit-requires : tie.Need-paint-bit-requires Inv-loop μ-loop
+paint-bit-requires c κs = search needs
+
+add-c : tie.Need-add-c Inv-loop μ-loop
+add-c c = search needs
+
+loop-less : tie.Need-loop-less Inv-loop μ-loop
+loop-less c = search needs
+
+loop-again : tie.Need-loop-again Inv-loop μ-loop
+loop-again c =
+    let at = c .before .before .before .before .before in
+    let l = at .loop in
+    let a = at .before .before .before .args in
+    let called = c .before .before .paint-bit in (
+      omega arith,
+      called .kept .0 ∙ l .inv .1,
+      columns-step _ (a .bits) (a .x) (l .c) (a .row .now) (l .inv .2) (called .ensures),
+    )
+
+same-length : tie.Need-same-length Inv-loop μ-loop
 same-length c = search needs
 
-returns-2 : tie.Need-returns-2
-returns-2 c = search needs
-
-mul-if3 : tie.Need-mul-if3
-mul-if3 c = search needs
-
-add-if3 : tie.Need-add-if3
-add-if3 c = search needs
-
-paint-clipped-requires-2 : tie.Need-paint-clipped-requires-2
-paint-clipped-requires-2 c κs = search needs
-
-same-length-2 : tie.Need-same-length-2
-same-length-2 c = search needs
-
-returns-3 : tie.Need-returns-3
-returns-3 c = search needs
-
-paint-inside-requires : tie.Need-paint-inside-requires
-paint-inside-requires c κs = search needs
-
-same-length-3 : tie.Need-same-length-3
-same-length-3 c = search needs
-
-returns-4 : tie.Need-returns-4
-returns-4 c = search needs
+returns-2 : tie.Need-returns-2 Inv-loop μ-loop
+returns-2 c =
+    let e : c .before .loop .c ≡ 8 = omega arith in
+    rw e at (c .before .loop .inv .2)
 
 pub paint-row-spec : {M : Type 1} → statement M
 paint-row-spec =
     tie.close
     (tie.spec
+    Inv-loop
+    μ-loop
     returns
-    paint-clipped-requires
+    loop-holds
+    paint-bit-requires
+    add-c
+    loop-less
+    loop-again
     same-length
-    returns-2
-    mul-if3
-    add-if3
-    paint-clipped-requires-2
-    same-length-2
-    returns-3
-    paint-inside-requires
-    same-length-3
-    returns-4)
+    returns-2)
