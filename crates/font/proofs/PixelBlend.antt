@@ -5,14 +5,15 @@ use mathlib.Core.List.{List}
 use Prim.Native.Nat.{ℕ, zero, suc, _+_, _-_, _*_, _/_, _≤_, _<_}
 use native.Mathlib.Nat.{mul-zero, mul-le-mul-right}
 use native.Mathlib.Omega.{arith}
+use borrow.Author.Needs.{read-above}
 use lib.Dec.{eqb, eqb·suc-zero}
 use lib.ListN.{length, getD, set, length-set}
-use lib.Seq.{set-getD, getD-set-other}
+use lib.Seq.{set-getD}
 use Rattle.font.specs.Blend.{blendByte, blendAlpha, blendOver, blendPixel}
 
--- THE ALPHA CEILING: the new alpha of a pixel never passes 255, whatever bytes the two alphas are
-pub alpha-ceiling : (a d : ℕ) → a ≤ 255 → d ≤ 255 → a + (d * (255 - a) + 127) / 255 ≤ 255
-alpha-ceiling a d ha hd =
+-- the new alpha of a pixel never passes 255, whatever bytes the two alphas are
+pub alpha-fits : (a d : ℕ) → a ≤ 255 → d ≤ 255 → a + (d * (255 - a) + 127) / 255 ≤ 255
+alpha-fits a d ha hd =
     let q = mul-le-mul-right (255 - a) hd in
     omega arith
 
@@ -26,7 +27,7 @@ pub byte-fits : (s a d : ℕ) → s ≤ 255 → a ≤ 255 → d ≤ 255 → blen
 unfolding blendByte
 byte-fits s a d hs ha hd =
     let p = mul-le-mul-right a hs in
-    let q = alpha-ceiling a d ha hd in
+    let q = alpha-fits a d ha hd in
     omega arith
 
 -- alpha 0 gives the picture's byte back, so that a pixel needs no test for it
@@ -45,10 +46,6 @@ over-is-pixel k i l = at (getD k 3 0) refl where
   at zero e = simp (e, byte-clear, alpha-clear, set-getD)
   at (suc a) e = rw eqb·suc-zero
 
--- a byte written before is not in the way of one that is read behind it
-read-behind : (l : List ℕ) (i j v : ℕ) → i < j → getD (set l i v) j 0 ≡ getD l j 0
-read-behind l i j v h = getD-set-other l i j v 0 (λ e. absurd (omega (arith, e, h)))
-
 -- four bytes mixed one after the other, each into what stands there, are a pixel blended
 pub pixel-of : (k : List ℕ) (i : ℕ) (l : List ℕ) {v0 v1 v2 v3 : ℕ}
     → v0 ≡ blendByte (getD k 0 0) (getD k 3 0) (getD l i 0)
@@ -59,11 +56,13 @@ pub pixel-of : (k : List ℕ) (i : ℕ) (l : List ℕ) {v0 v1 v2 v3 : ℕ}
 unfolding blendOver
 pixel-of k i l {v0} {v1} {v2} p0 p1 p2 p3 =
     let mixed : ℕ → ℕ → ℕ = λ n d. blendByte (getD k n 0) (getD k 3 0) d in
-    let one = read-behind l i (i + 1) v0 (omega arith) in
-    let two = read-behind (set l i v0) (i + 1) (i + 2) v1 (omega arith) ∙ read-behind l i (i + 2) v0 (omega arith) in
+    let w1 = set l i v0 in
+    let w2 = set w1 (i + 1) v1 in
+    let one = read-above _ l i (i + 1) v0 0 _ (omega arith) refl in
+    let two = read-above _ w1 (i + 1) (i + 2) v1 0 _ (omega arith) (read-above _ l i (i + 2) v0 0 _ (omega arith) refl) in
     let three =
-    read-behind (set (set l i v0) (i + 1) v1) (i + 2) (i + 3) v2 (omega arith)
-    ∙ (read-behind (set l i v0) (i + 1) (i + 3) v1 (omega arith) ∙ read-behind l i (i + 3) v0 (omega arith)) in
+    read-above _ w2 (i + 2) (i + 3) v2 0 _ (omega arith)
+    (read-above _ w1 (i + 1) (i + 3) v1 0 _ (omega arith) (read-above _ l i (i + 3) v0 0 _ (omega arith) refl)) in
     rw (p0, p1 ∙ ap (mixed 1) one, p2 ∙ ap (mixed 2) two, p3 ∙ ap (blendAlpha (getD k 3 0)) three) (over-is-pixel k i l)
 
 pub pixel-length : (k : List ℕ) (i : ℕ) (l : List ℕ) → length (blendPixel k i l) ≡ length l
