@@ -6,4 +6,8 @@ pub mod Rounding  -- the slant in f32, at each of the sixteen rows of the two pe
 pub mod PixelBlend  -- a color blended into one pixel
 pub mod Columns  -- a glyph's row painted into a picture's row
 pub mod Rows  -- a picture's rows, each changed by itself, and a stroke's rows
+pub mod Pixels  -- lists of pixels without one twice, and a color blended into each
+pub mod MetPixels  -- the pixels that a stroke meets
+pub mod Upward  -- a stroke drawn from its lowest row up
+pub mod Cases  -- the pixels that a comma meets, by computation
 pub mod Signs  -- the signs of the library mean what the deposit says of them

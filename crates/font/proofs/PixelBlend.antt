@@ -3,12 +3,12 @@ use mathlib.Core.Path.{_≡_, _∙_, refl, ap}
 use mathlib.Core.Bool.{Bool, true, false, cond}
 use mathlib.Core.List.{List}
 use Prim.Native.Nat.{ℕ, zero, suc, _+_, _-_, _*_, _/_, _≤_, _<_}
-use native.Mathlib.Nat.{mul-zero, mul-le-mul-right}
+use native.Mathlib.Nat.{mul-zero, mul-le-mul-right, add-assoc}
 use native.Mathlib.Omega.{arith}
 use borrow.Author.Needs.{read-above}
 use lib.Dec.{eqb, eqb·suc-zero}
-use lib.ListN.{length, getD, set, length-set}
-use lib.Seq.{set-getD}
+use lib.ListN.{length, getD, set, take, drop, length-set}
+use lib.Seq.{set-getD, take-set-le, take-set-lt, drop-set-lt, drop-set-add, getD-take, getD-drop}
 use Rattle.font.specs.Blend.{blendByte, blendAlpha, blendOver, blendPixel}
 
 -- the new alpha of a pixel never passes 255, whatever bytes the two alphas are
@@ -71,3 +71,49 @@ pixel-length k i l = pick (eqb (getD k 3 0) 0) where
   pick : (b : Bool) → length (cond b l (blendOver k i l)) ≡ length l
   pick true = refl
   pick false = simp length-set
+
+-- a pixel that is blended, and bytes that are taken from before it, with it or behind it
+module _ (k : List ℕ) (n i : ℕ) (l : List ℕ) where
+  pub take-before : n ≤ i → take n (blendPixel k i l) ≡ take n l
+  unfolding blendOver
+  take-before h =
+      rw (
+        ← (over-is-pixel k i l),
+        take-set-le n _ (i + 3) _ (omega arith),
+        take-set-le n _ (i + 2) _ (omega arith),
+        take-set-le n _ (i + 1) _ (omega arith),
+        take-set-le n _ i _ h,
+      )
+
+  pub drop-behind : i + 4 ≤ n → drop n (blendPixel k i l) ≡ drop n l
+  unfolding blendOver
+  drop-behind h =
+      rw (
+        ← (over-is-pixel k i l),
+        drop-set-lt n _ (i + 3) _ (omega arith),
+        drop-set-lt n _ (i + 2) _ (omega arith),
+        drop-set-lt n _ (i + 1) _ (omega arith),
+        drop-set-lt n _ i _ (omega arith),
+      )
+
+  pub take-with : i + 4 ≤ n → take n (blendPixel k i l) ≡ blendPixel k i (take n l)
+  unfolding blendOver
+  take-with h =
+      rw (
+        ← (over-is-pixel k i l),
+        ← (over-is-pixel k i (take n l)),
+        take-set-lt n _ (i + 3) _ (omega arith),
+        take-set-lt n _ (i + 2) _ (omega arith),
+        take-set-lt n _ (i + 1) _ (omega arith),
+        take-set-lt n _ i _ (omega arith),
+        getD-take n l (i + 3) 0 (omega arith),
+        getD-take n l (i + 2) 0 (omega arith),
+        getD-take n l (i + 1) 0 (omega arith),
+        getD-take n l i 0 (omega arith),
+      )
+
+  pub drop-to : drop n (blendPixel k (n + i) l) ≡ blendPixel k i (drop n l)
+  unfolding blendOver
+  drop-to =
+      rw (← (over-is-pixel k (n + i) l), ← (over-is-pixel k i (drop n l)))
+      (simp (add-assoc, drop-set-add, getD-drop))

@@ -1,9 +1,9 @@
 -- Laws of a picture's rows, each changed by itself, and of a stroke's rows.
 use mathlib.Core.Path.{_≡_, _∙_, refl, sym, ap, subst}
-use mathlib.Core.Bool.{_&&_}
+use mathlib.Core.Bool.{Bool, true, false, cond, _&&_}
 use mathlib.Core.List.{List, _++_, append-assoc}
 use Prim.Native.Nat.{ℕ, zero, suc, _+_, _-_, _*_, _≤_, _<_, min}
-use native.Mathlib.Nat.{mul-le-mul-right, zero-mul, suc-mul, zero-add, add-zero, suc-add, add-suc, add-comm}
+use native.Mathlib.Nat.{le-refl, mul-le-mul-right, zero-mul, suc-mul, zero-add, add-zero, suc-add, add-suc, add-comm}
 use native.Mathlib.Numerals.{add-one}
 use native.Mathlib.Omega.{arith}
 use borrow.Author.Tests.{le-leb, lt-leb, lt-ltb, le-ltb}
@@ -12,6 +12,7 @@ use lib.ListN.{length, getD, take, drop, length-append, length-drop, take-append
 use lib.Seq.{length-take-le, take-at, drop-at, drop-drop, take-take, take-add}
 use Rattle.font.specs.Font.{bearingY}
 use Rattle.font.specs.Paint.{origin, paintRow, strokeRow, eachRow}
+use Rattle.font.specs.Upward.{strokeAfter}
 use Rattle.font.proofs.Columns.{cond-length, cond-same, columns-length, columns-clear}
 
 -- row i of some rows ends within them
@@ -20,22 +21,28 @@ row-in i rows size h k =
     let p : suc i * size ≤ rows * size = mul-le-mul-right size h in
     omega (arith, suc-mul i size)
 
-pub less : {i n : ℕ} → i < n → n - (i + 1) < n - i
-less h = omega arith
+-- a loop that goes down from n and has not come to its last
+module _ {last n : ℕ} (h : last < n) where
+  pub less : n - 1 < n
+  less = omega arith
 
--- row i of a part, whose first row is at position start, has row r of a glyph, whose top is at position top
-pub record Falls (rows start top i r : ℕ) : Type 0 where
+  pub back : n - 1 + 1 ≡ n
+  back = omega arith
+
+-- row i of a part, whose first row is at position start, has row r of a glyph, whose top is at position top, and at least
+-- `left` rows of the glyph are above it
+pub record Falls (rows start top left i r : ℕ) : Type 0 where
   pub within : i < rows
-  pub next : i + 1 ≤ rows
   pub reaches : top ≤ start + i
+  pub lowest : top + left ≤ start + i
   pub row : r < 16
   pub is : start + i ≡ top + r
 
--- so has each row that a loop from the first of the glyph's rows to the last comes to
-pub falls : (rows start top i end : ℕ) → min rows (top - start) ≤ i → i < end → end ≡ min rows (top + 16 - start)
-    → Falls rows start top i (start + i - top)
-falls rows start top i end h k e =
-    record { within = omega arith; next = omega arith; reaches = omega arith; row = omega arith; is = omega arith }
+-- so has each row that a loop from the glyph's lowest row up comes to: it stops at row last, and goes on from row next
+pub falls : (rows start top left last next : ℕ) → last ≡ min rows (top + left - start) → last < next
+    → next ≤ min rows (top + 16 - start) → Falls rows start top left (next - 1) (start + (next - 1) - top)
+falls rows start top left last next e h k =
+    record { within = omega arith; reaches = omega arith; lowest = omega arith; row = omega arith; is = omega arith }
 
 module _ (f : ℕ → List ℕ → List ℕ) (size : ℕ) where
   -- the first a rows, where f keeps them
@@ -57,22 +64,38 @@ module _ (f : ℕ → List ℕ → List ℕ) (size : ℕ) where
   rows-kept n y l keep =
       ap (λ (m : ℕ). eachRow f size m y l) (sym (add-zero n)) ∙ rows-skip n 0 y l keep ∙ take-append-drop (n * size) l
 
-  -- a turn of a loop over the rows: the a bytes before a row are done, the row is lent and comes back changed
-  pub rows-turn : (n y a : ℕ) (l row whole : List ℕ) → a + size ≤ length l → length row ≡ size → row ≡ f y (take size (drop a l))
-      → whole ≡ take a l ++ eachRow f size (suc n) y (drop a l)
-      → let l′ = take a l ++ (row ++ drop size (drop a l)) in
-      whole ≡ take (a + size) l′ ++ eachRow f size n (suc y) (drop (a + size) l′)
+  -- all rows but row i, where f keeps them
+  pub rows-one : (i n y : ℕ) (l : List ℕ) → ((j : ℕ) (r : List ℕ) → (j ≡ i → ⊥) → f (y + j) r ≡ r)
+      → let rest = drop (i * size) l in
+      eachRow f size (i + suc n) y l ≡ take (i * size) l ++ (f (y + i) (take size rest) ++ drop size rest)
   unfolding eachRow
-  rows-turn n y a l row whole h k e w =
-      let front : length (take a l ++ row) ≡ a + size =
-      length-append (take a l) row ∙ rw (length-take-le a l (omega arith), k) refl in
+  rows-one i n y l keep =
+      let rest = drop (i * size) l in
+      let next : (j : ℕ) → y + (i + suc j) ≡ suc (y + i) + j = λ j. omega arith in
+      rows-skip i (suc n) y l (λ j r h. keep j r (λ e. omega arith))
+      ∙ ap (λ (behind : List ℕ). take (i * size) l ++ (f (y + i) (take size rest) ++ behind))
+      (rows-kept n (suc (y + i)) (drop size rest)
+      (λ j r h. subst (λ (m : ℕ). f m r ≡ r) (next j) (keep (i + suc j) r (λ e. omega arith))))
+
+  -- a turn of a loop from the last row up: what stands behind a row is done, the row is lent and comes back changed
+  pub rows-turn : (n y a : ℕ) (l row part : List ℕ) → a + size ≤ length l
+      → part ≡ take (a + size) l ++ eachRow f size n (suc y) (drop (a + size) l) → row ≡ f y (take size (drop a part))
+      → take a part ++ (row ++ drop size (drop a part)) ≡ take a l ++ eachRow f size (suc n) y (drop a l)
+  unfolding eachRow
+  rows-turn n y a l row part h w e =
+      let old = take size (drop a l) in
+      let rest = eachRow f size n (suc y) (drop size (drop a l)) in
+      let front : length (take a l) ≡ a = length-take-le a l (omega arith) in
+      let long : length old ≡ size = length-take-le size (drop a l) (rw length-drop (omega arith)) in
+      let split : part ≡ take a l ++ (old ++ rest) = w ∙ rw (take-add, ← (drop-drop size a l), append-assoc) in
       rw (
-        ← (append-assoc (take a l) row (drop size (drop a l))),
-        take-at (take a l ++ row) (drop size (drop a l)) (a + size) front,
-        drop-at (take a l ++ row) (drop size (drop a l)) (a + size) front,
-        append-assoc,
         e,
-      ) w
+        split,
+        take-at (take a l) (old ++ rest) a front,
+        drop-at (take a l) (old ++ rest) a front,
+        take-at old rest size long,
+        drop-at old rest size long,
+      )
 
 -- a change that keeps each row `size` bytes long
 module _ (f : ℕ → List ℕ → List ℕ) (size : ℕ) (same : (y : ℕ) (row : List ℕ) → length row ≡ size → length (f y row) ≡ size) where
@@ -206,49 +229,77 @@ module _ (glyph offsets k : List ℕ) (x base y : ℕ) (row : List ℕ) where
   stroke-below h =
       simp (le-leb (base - bearingY) (origin + y) (omega arith), le-ltb (origin + y - (base - bearingY)) 16 (omega arith))
 
--- A loop over the rows of a stroke: what a stroke leaves of the whole is the rows before row i as they are, and the
--- stroke on the rows from i on.
-module _ (glyph offsets k : List ℕ) (x base size rows first : ℕ) (whole : List ℕ) where
-  abbrev stroke : ℕ → List ℕ → List ℕ
-  stroke = strokeRow glyph offsets k x base
+-- a test inside itself and another
+cond-twice : {A : Type 0} (b c : Bool) (x y : A) → cond b (cond (b && c) x y) y ≡ cond (b && c) x y
+cond-twice true c x y = refl
+cond-twice false c x y = refl
 
-  abbrev pub Left : ℕ → List ℕ → Type 0
-  Left i part =
-      eachRow stroke size rows first whole
-      ≡ take (i * size) part ++ eachRow stroke size (rows - i) (first + i) (drop (i * size) part)
+-- the cases of a row after the j lowest rows of a stroke
+module _ (j : ℕ) (glyph offsets k : List ℕ) (x base y : ℕ) (row : List ℕ) where
+  pub after-on : base - bearingY + (16 - j) ≤ origin + y
+      → strokeAfter j glyph offsets k x base y row ≡ strokeRow glyph offsets k x base y row
+  unfolding strokeAfter
+  after-on h = simp (le-leb (base - bearingY + (16 - j)) (origin + y) h)
 
-  -- the rows above the glyph
-  pub left-start : (i : ℕ) → i ≤ rows → i ≤ base - bearingY - (origin + first) → Left i whole
-  left-start i h j =
-      let e : rows ≡ i + (rows - i) = omega arith in
-      ap (λ (n : ℕ). eachRow stroke size n first whole) e
-      ∙ rows-skip stroke size i (rows - i) first whole (λ d row b. stroke-above glyph offsets k x base (first + d) row (omega arith))
+  pub after-above : origin + y < base - bearingY + (16 - j) → strokeAfter j glyph offsets k x base y row ≡ row
+  unfolding strokeAfter
+  after-above h = simp (lt-leb (base - bearingY + (16 - j)) (origin + y) h)
+
+  pub after-below : base - bearingY + 16 ≤ origin + y → strokeAfter j glyph offsets k x base y row ≡ row
+  after-below h = after-on (omega arith) ∙ stroke-below glyph offsets k x base y row h
+
+  pub after-all : 16 ≤ j → strokeAfter j glyph offsets k x base y row ≡ strokeRow glyph offsets k x base y row
+  unfolding strokeAfter strokeRow
+  after-all h =
+      let none : 16 - j ≡ 0 = omega arith in
+      let r = origin + y - (base - bearingY) in
+      rw (none, add-zero) (cond-twice (leb (base - bearingY) (origin + y)) (ltb r 16) (paintRow k (getD glyph r 0) (x + getD offsets r 0 - 8) row) row)
+
+-- all sixteen are the stroke
+pub all-rows : (glyph offsets k : List ℕ) (x base size n first : ℕ) (part : List ℕ)
+    → eachRow (strokeAfter 16 glyph offsets k x base) size n first part ≡ eachRow (strokeRow glyph offsets k x base) size n first part
+all-rows glyph offsets k x base size n first part =
+    λ i. eachRow (λ y row. after-all 16 glyph offsets k x base y row (le-refl 16) i) size n first part
+
+-- A loop over the j lowest rows of a stroke, from the last up: the rows before row i are as they were, and those from i
+-- on are done.
+module _ (j : ℕ) (glyph offsets k : List ℕ) (x base size rows first : ℕ) (whole : List ℕ) where
+  abbrev low : ℕ → List ℕ → List ℕ
+  low = strokeAfter j glyph offsets k x base
+
+  abbrev pub Done : ℕ → List ℕ → Type 0
+  Done i part = part ≡ take (i * size) whole ++ eachRow low size (rows - i) (first + i) (drop (i * size) whole)
+
+  -- the rows below the glyph
+  pub done-start : (i : ℕ) → i ≡ min rows (base - bearingY + 16 - (origin + first)) → Done i whole
+  done-start i h =
+      sym
+      (ap (λ (l : List ℕ). take (i * size) whole ++ l)
+      (rows-kept low size (rows - i) (first + i) (drop (i * size) whole)
+      (λ d row b. after-below j glyph offsets k x base (first + i + d) row (omega arith)))
+      ∙ take-append-drop (i * size) whole)
 
   -- row i, on which the glyph's row r falls
-  pub left-turn : (i r n : ℕ) (part row : List ℕ) → Falls rows (origin + first) (base - bearingY) i r
-      → i * size + size ≤ length part → n ≡ size
-      → row ≡ paintRow k (getD glyph r 0) (x + getD offsets r 0 - 8) (take n (drop (i * size) part)) → Left i part
-      → Left (i + 1) (take (i * size) part ++ (row ++ drop n (drop (i * size) part)))
-  left-turn i r n part row f fits q p w =
+  pub done-turn : (i r n : ℕ) (part row : List ℕ) → Falls rows (origin + first) (base - bearingY) (16 - j) i r
+      → i * size + size ≤ length whole → n ≡ size
+      → row ≡ paintRow k (getD glyph r 0) (x + getD offsets r 0 - 8) (take n (drop (i * size) part)) → Done (i + 1) part
+      → Done i (take (i * size) part ++ (row ++ drop n (drop (i * size) part)))
+  done-turn i r n part row f fits q p w =
       let old = take size (drop (i * size) part) in
       let m : rows - i ≡ suc (rows - (i + 1)) = omega arith in
       let v : (i + 1) * size ≡ i * size + size = ap (λ (j : ℕ). j * size) (add-one i) ∙ suc-mul i size in
       let y : first + (i + 1) ≡ suc (first + i) = omega arith in
-      let p′ : row ≡ paintRow k (getD glyph r 0) (x + getD offsets r 0 - 8) old = rw q at p in
-      let long : length row ≡ size =
-      ap length p′ ∙ columns-length k (getD glyph r 0) (x + getD offsets r 0 - 8) 8 old
-      ∙ length-take-le size (drop (i * size) part) (rw length-drop (omega arith)) in
-      rw (v, y, q)
-      (rows-turn stroke size (rows - (i + 1)) (first + i) (i * size) part row (eachRow stroke size rows first whole) fits long
-      (p′ ∙ sym (stroke-on glyph offsets k x base (first + i) old r (f .row) (omega arith))) (rw m at w))
+      let painted = stroke-on glyph offsets k x base (first + i) old r (f .row) (omega arith) in
+      let lowest = after-on j glyph offsets k x base (first + i) old (omega arith) in
+      rw (q, m)
+      (rows-turn low size (rows - (i + 1)) (first + i) (i * size) whole row part fits (rw (v, y) at w)
+      ((rw q at p) ∙ sym painted ∙ sym lowest))
 
-  -- the rows below the glyph
-  pub left-end : (i : ℕ) (part : List ℕ) → min rows (base - bearingY + 16 - (origin + first)) ≤ i → Left i part
-      → part ≡ eachRow stroke size rows first whole
-  left-end i part h w =
-      sym
-      (w
-      ∙ ap (λ (l : List ℕ). take (i * size) part ++ l)
-      (rows-kept stroke size (rows - i) (first + i) (drop (i * size) part)
-      (λ d row b. stroke-below glyph offsets k x base (first + i + d) row (omega arith)))
-      ∙ take-append-drop (i * size) part)
+  -- the rows above the glyph's j lowest
+  pub done-end : (i : ℕ) (part : List ℕ) → i ≤ min rows (base - bearingY + (16 - j) - (origin + first)) → Done i part
+      → part ≡ eachRow low size rows first whole
+  done-end i part h w =
+      let e : i + (rows - i) ≡ rows = omega arith in
+      w
+      ∙ sym (rows-skip low size i (rows - i) first whole (λ d row c. after-above j glyph offsets k x base (first + d) row (omega arith)))
+      ∙ ap (λ (n : ℕ). eachRow low size n first whole) e

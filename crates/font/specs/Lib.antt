@@ -6,5 +6,6 @@ pub mod Slant
 pub mod Blend
 pub mod Paint
 pub mod Colors
+pub mod Upward
 pub mod Shear
 pub mod Lent

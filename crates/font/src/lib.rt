@@ -7,6 +7,7 @@ pub use paint::ORIGIN;
 pub use paint::Rows;
 pub use paint::Spot;
 pub use paint::draw_glyph_sheared;
+pub use paint::draw_lowest_rows;
 ghost use mathlib.Core.Path.{_≡_};
 ghost use mathlib.Core.Bool.{true, false};
 ghost use Prim.Native.Nat.{_<_};

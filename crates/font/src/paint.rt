@@ -2,8 +2,10 @@
 ghost use mathlib.Core.Path.{_≡_};
 ghost use Prim.Native.Nat.{_+_, _-_, _*_, _≤_, _<_, min};
 ghost use lib.ListN.{length};
+ghost use Rattle.font.specs.Font.{cellH};
 ghost use Rattle.font.specs.Blend.{blendByte, blendAlpha, blendPixel};
-ghost use Rattle.font.specs.Paint.{origin, paintColumn, paintBit, paintRow, strokeRow, eachRow};
+ghost use Rattle.font.specs.Paint.{origin, paintColumn, paintBit, paintRow, eachRow};
+ghost use Rattle.font.specs.Upward.{partAfter};
 ghost use Rattle.font.specs.Shear.{penRow, Inked};
 ghost use Rattle.font.specs.Lent.{mostLent, Lent, Reachable};
 use crate::BitmapFont;
@@ -103,12 +105,13 @@ fn draw_row(row: &mut [u8], x: usize, bits: u8, offset: u8, color: [u8; 4])
     paint_row(row, x + offset as usize - 8, bits, color);
 }
 
-// How many of the lent rows lie above position y.
-fn rows_above(rows: Rows, y: usize) -> usize
-    requires { ⌜ rows .first ≤ mostLent ⌝ }
-    ensures { λ r. ⌜ r ≡ min (rows .count) (y - (origin + rows .first)) ⌝ }
+// How many of the lent rows lie above row r of a glyph, whose row 0 is at position top.
+fn rows_above(rows: Rows, top: usize, r: u32) -> usize
+    requires { ⌜ (rows .first ≤ mostLent) × (top < 2 * origin) ⌝ }
+    ensures { λ n. ⌜ n ≡ min (rows .count) (top + r - (origin + rows .first)) ⌝ }
 {
     let start = ORIGIN + rows.first;
+    let y = top + r as usize;
     if y <= start {
         return 0;
     }
@@ -119,30 +122,41 @@ fn rows_above(rows: Rows, y: usize) -> usize
     }
 }
 
-// Draws a glyph, row by row.
-fn draw_rows(
+// How many of a glyph's rows are left when its `count` lowest are drawn.
+fn rows_left(count: u32) -> u32
+    ensures { λ r. ⌜ r ≡ cellH - count ⌝ }
+{
+    if BitmapFont::CELL_H < count {
+        return 0;
+    }
+    BitmapFont::CELL_H - count
+}
+
+// Draws the `count` lowest rows of a glyph, from the lowest up; more than sixteen are all of them.
+pub fn draw_lowest_rows(
     part: &mut [u8],
     rows: Rows,
     glyph: &[u8; 16],
     offsets: &[u8; 16],
     at: Spot,
     color: [u8; 4],
+    count: u32,
 )
     requires { ⌜ Lent (length (now part)) rows × Reachable at ⌝ }
     ensures { λ _. ⌜ now (part .exit)
-        ≡ eachRow (strokeRow (now (glyph .entry)) (now (offsets .entry)) color (at .x) (at .base))
-        (4 * rows .width) (rows .count) (rows .first) (now (part .entry)) ⌝ }
+        ≡ partAfter (now (glyph .entry)) (now (offsets .entry)) color (at .x) (at .base)
+        (rows .width) (rows .count) (rows .first) count (now (part .entry)) ⌝ }
 {
     let size = 4 * rows.width;
     let top = at.base - BitmapFont::BEARING_Y as usize;
-    let mut i = rows_above(rows, top);
-    let end = rows_above(rows, top + BitmapFont::CELL_H as usize);
-    while i < end {
+    let last = rows_above(rows, top, rows_left(count));
+    let mut i = rows_above(rows, top, BitmapFont::CELL_H);
+    while last < i {
+        i -= 1;
         let a = i * size;
         let e = a + size;
         let r = ORIGIN + rows.first + i - top;
         draw_row(&mut part[a..e], at.x, glyph[r], offsets[r], color);
-        i += 1;
     }
 }
 
@@ -166,5 +180,5 @@ pub fn draw_glyph_sheared(
     if color[3] == 0 {
         return;
     }
-    draw_rows(part, rows, glyph, offsets, at, color);
+    draw_lowest_rows(part, rows, glyph, offsets, at, color, BitmapFont::CELL_H);
 }

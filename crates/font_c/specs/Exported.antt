@@ -9,6 +9,7 @@ use Rattle.font.specs.Font.{tableOf, glyphRows}
 use Rattle.font.specs.Colors.{colorBytes}
 use Rattle.font.specs.Slant.{rowOffsets}
 use Rattle.font.specs.Paint.{origin, strokeRow, eachRow}
+use Rattle.font.specs.Upward.{partAfter}
 use Rattle.font.specs.Lent.{mostLent}
 
 -- a position from 2^25 up to 2^27; the picture's corner is at 2^26
@@ -31,3 +32,19 @@ stroked width rows first code bold italic k x y l =
 pub record Stroked (width rows first code : ℕ) (bold italic : Bool) (k x y : ℕ) (before after : List ℕ) (answer : Bool) : Type 0 where
   pub answers : answer ≡ admitted (length before) width rows first x y
   pub leaves : after ≡ stroked width rows first code bold italic k x y before
+
+-- the same of the j lowest rows of a stroke
+unfoldable pub strokedRows : ℕ → ℕ → ℕ → ℕ → ℕ → Bool → Bool → ℕ → ℕ → ℕ → List ℕ → List ℕ
+strokedRows j width rows first code bold italic k x y l =
+    cond (admitted (length l) width rows first x y)
+    (partAfter (glyphRows (tableOf bold) code) (rowOffsets italic) (colorBytes k) x y width rows first j l)
+    l
+
+pub record StrokedRows
+    (j width rows first code : ℕ)
+    (bold italic : Bool)
+    (k x y : ℕ)
+    (before after : List ℕ)
+    (answer : Bool) : Type 0 where
+  pub answers : answer ≡ admitted (length before) width rows first x y
+  pub leaves : after ≡ strokedRows j width rows first code bold italic k x y before

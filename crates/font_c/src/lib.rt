@@ -1,8 +1,8 @@
-// The font for callers in C and Rust: what `host/` compares with the original, glyph by glyph and
-// stroke by stroke. The captions themselves have an interface of their own.
+// The font for callers in C and Rust: what `host/` compares with the original, glyph by glyph, stroke
+// by stroke and row by row. The captions themselves have an interface of their own.
 ghost use mathlib.Core.Path.{_≡_};
 ghost use Rattle.font.specs.Font.{tableOf, glyphRows};
-ghost use Rattle.font_c.specs.Exported.{near, admitted, Stroked};
+ghost use Rattle.font_c.specs.Exported.{near, admitted, Stroked, StrokedRows};
 use font::BitmapFont;
 use font::Pen;
 use font::Rows;
@@ -60,11 +60,12 @@ fn is_admitted(n: usize, rows: Rows, at: Spot) -> bool
     rows.count * (4 * rows.width) <= n
 }
 
-// Blends a glyph into a part of a picture: `rows` rows of `width` pixels from the picture's row
-// `first` on. x and y, the left column and the base line, are counted from an origin 2^26 left of
-// and above the picture. Answers false, and leaves the part, where these are out of range.
+// Blends the `count` lowest rows of a glyph, more than sixteen being all of them, into a part of a
+// picture: `rows` rows of `width` pixels from the picture's row `first` on. x and y, the left column
+// and the base line, are counted from an origin 2^26 left of and above the picture. Answers false,
+// and leaves the part, where these are out of range.
 #[no_mangle]
-pub extern "C" fn font_stroke(
+pub extern "C" fn font_stroke_rows(
     part: &mut [u8],
     width: u32,
     rows: u32,
@@ -75,8 +76,9 @@ pub extern "C" fn font_stroke(
     color: u32,
     x: u32,
     y: u32,
+    count: u32,
 ) -> bool
-    ensures { λ r. ⌜ Stroked width rows first code bold italic color x y (now (part .entry)) (now (part .exit)) r ⌝ }
+    ensures { λ r. ⌜ StrokedRows count width rows first code bold italic color x y (now (part .entry)) (now (part .exit)) r ⌝ }
 {
     let lent = Rows {
         width: width as usize,
@@ -93,6 +95,39 @@ pub extern "C" fn font_stroke(
     let pen = Pen::new(font::color_bytes(color), bold, italic);
     let offsets = pen.row_offsets();
     let glyph = font::glyph_rows(&table(pen.bold), code);
-    font::draw_glyph_sheared(part, lent, code, &glyph, &offsets, at, pen);
+    let bytes = pen.color;
+    font::draw_lowest_rows(part, lent, &glyph, &offsets, at, bytes, count);
     true
+}
+
+// The same of the whole glyph.
+#[no_mangle]
+pub extern "C" fn font_stroke(
+    part: &mut [u8],
+    width: u32,
+    rows: u32,
+    first: u32,
+    code: u32,
+    bold: bool,
+    italic: bool,
+    color: u32,
+    x: u32,
+    y: u32,
+) -> bool
+    ensures { λ r. ⌜ Stroked width rows first code bold italic color x y (now (part .entry)) (now (part .exit)) r ⌝ }
+{
+    let all = BitmapFont::CELL_H;
+    font_stroke_rows(
+        part,
+        width,
+        rows,
+        first,
+        code,
+        bold,
+        italic,
+        color,
+        x,
+        y,
+        all,
+    )
 }

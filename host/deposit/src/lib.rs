@@ -52,10 +52,11 @@ const FOR_PLAYERS: [Chapter; 6] = [
 ];
 
 /// What stands behind the examples.
-const BEHIND: [Chapter; 12] = [
+const BEHIND: [Chapter; 13] = [
     ("Positions in signed numbers", "compositor", &["Plain"]),
     ("From segments to tapes", "tape", &["Segments"]),
     ("What lines keep", "wrap", &["Shown"]),
+    ("A stroke, row by row", "font", &["Upward"]),
     ("What a call answers and leaves", "tape", &["Call"]),
     ("What a call answers and leaves", "wrap", &["Wrapped"]),
     ("What a call answers and leaves", "compositor", &["Drawn"]),

@@ -180,7 +180,7 @@ fn kinds(line: &str) -> Vec<&str> {
 
 /// A line of a head without the paragraph of the paper that it names: readers have no such paper.
 fn without_paper(line: &str) -> String {
-    match line.split_once(": document 01, ") {
+    match line.split_once(": document 0") {
         Some((title, _)) => format!("{title}."),
         None => line.to_owned(),
     }

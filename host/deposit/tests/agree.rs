@@ -130,11 +130,14 @@ fn the_order_of_refusals() {
 }
 
 /// The files that docs/DEFINITIONS.md quotes from, and what it has to quote.
-const SPECS: [&str; 2] = [
+const SPECS: [&str; 3] = [
+    "crates/font/specs/Upward.antt",
     "crates/job/specs/History.antt",
     "crates/captions/specs/HistoryInC.antt",
 ];
-const QUOTED: [&str; 5] = [
+const QUOTED: [&str; 7] = [
+    "DrawnUpward",
+    "RowsFromTheBottom",
     "PartlyDrawn",
     "Demand3",
     "Possible",
@@ -166,6 +169,7 @@ fn paragraphs<'a>(lines: impl Iterator<Item = &'a str>) -> Vec<Vec<&'a str>> {
 /// The definitions of a file, each without its comment and without the line that only gives its type.
 fn definitions(specs: &str) -> Vec<Vec<&str>> {
     let passed = |line: &&str| {
+        let line = line.trim_start();
         let type_alone = line.starts_with("abbrev pub ") || line.starts_with("unfoldable pub ");
         !type_alone && !line.starts_with("--")
     };

@@ -5,6 +5,7 @@ mod glyphs;
 pub mod picture;
 mod proved;
 mod refusals;
+mod rows;
 mod specimen;
 pub mod strokes;
 
@@ -18,6 +19,7 @@ pub fn compare(original: &Original, seed: u64, pictures: u64) -> Vec<Count> {
     let mut counts = glyphs::compare(original);
     counts.push(strokes::every_glyph(original));
     counts.push(strokes::every_alpha(original));
+    counts.push(rows::compare(original));
     counts.push(strokes::limits(original));
     counts.push(refusals::compare(seed));
     counts.push(strokes::random(original, seed, pictures));

@@ -44,8 +44,7 @@ impl Picture {
     /// Draws it both ways and compares every byte. Answers whether the original changed any.
     pub fn compare(&self, original: &Original) -> Result<bool, String> {
         let expected = self.by_original(original);
-        self.by_proved(&expected)
-            .map_err(|found| format!("{found}\n{self}"))?;
+        self.hold(&expected, proved::stroke)?;
         Ok(expected != self.bytes)
     }
 
@@ -57,11 +56,25 @@ impl Picture {
         bytes
     }
 
-    /// Draws the strokes on all parts with the proved font and holds the outcome to `expected`.
-    fn by_proved(&self, expected: &[u8]) -> Result<(), String> {
+    /// Draws the strokes on all parts with a function of the proved font, and holds every byte to
+    /// `expected`.
+    pub fn hold(
+        &self,
+        expected: &[u8],
+        draw: impl Fn(&mut [u8], Part, proved::Stroke) -> bool,
+    ) -> Result<(), String> {
+        self.by_proved(expected, draw)
+            .map_err(|found| format!("{found}\n{self}"))
+    }
+
+    fn by_proved(
+        &self,
+        expected: &[u8],
+        draw: impl Fn(&mut [u8], Part, proved::Stroke) -> bool,
+    ) -> Result<(), String> {
         let mut fenced = Fenced::new(&self.bytes, fence(self.width));
         for (stroke, rows) in self.calls() {
-            let Lent { answer, kept } = self.draw_part(&mut fenced, stroke, &rows);
+            let Lent { answer, kept } = self.draw_part(&mut fenced, stroke, &rows, &draw);
             if !answer {
                 return Err(format!("refused {stroke:?} on rows {rows:?}"));
             }
@@ -87,7 +100,13 @@ impl Picture {
         }
     }
 
-    fn draw_part(&self, fenced: &mut Fenced, stroke: &Stroke, rows: &Range<u32>) -> Lent<bool> {
+    fn draw_part(
+        &self,
+        fenced: &mut Fenced,
+        stroke: &Stroke,
+        rows: &Range<u32>,
+        draw: impl Fn(&mut [u8], Part, proved::Stroke) -> bool,
+    ) -> Lent<bool> {
         let row = 4 * self.width as usize;
         let own = rows.start as usize * row..rows.end as usize * row;
         let part = Part {
@@ -96,7 +115,7 @@ impl Picture {
             first: rows.start,
         };
         fenced.lend(own, self.further, |bytes| {
-            proved::stroke(bytes, part, as_proved(stroke))
+            draw(bytes, part, as_proved(stroke))
         })
     }
 

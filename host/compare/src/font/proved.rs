@@ -1,4 +1,4 @@
-//! The proved font: the two functions of `libfont_c.a`, and the limits that they keep.
+//! The proved font: the three functions of `libfont_c.a`, and the limits that they keep.
 #![allow(unsafe_code)]
 
 /// Columns and rows of a place are counted from an origin this far left of and above the picture.
@@ -45,6 +45,21 @@ unsafe extern "C" {
         x: u32,
         y: u32,
     ) -> bool;
+
+    fn font_stroke_rows(
+        part: *mut u8,
+        part_len: usize,
+        width: u32,
+        rows: u32,
+        first: u32,
+        code: u32,
+        bold: bool,
+        italic: bool,
+        color: u32,
+        x: u32,
+        y: u32,
+        count: u32,
+    ) -> bool;
 }
 
 /// Writes the sixteen rows of a code point's glyph, bit 7 leftmost.
@@ -70,6 +85,27 @@ pub fn stroke(bytes: &mut [u8], part: Part, stroke: Stroke) -> bool {
             stroke.color,
             stroke.x,
             stroke.y,
+        )
+    }
+}
+
+/// The same of the glyph's `count` lowest rows alone; more than sixteen are all of them.
+pub fn stroke_rows(bytes: &mut [u8], part: Part, stroke: Stroke, count: u32) -> bool {
+    // Safety: as above.
+    unsafe {
+        font_stroke_rows(
+            bytes.as_mut_ptr(),
+            bytes.len(),
+            part.width,
+            part.rows,
+            part.first,
+            stroke.code,
+            stroke.bold,
+            stroke.italic,
+            stroke.color,
+            stroke.x,
+            stroke.y,
+            count,
         )
     }
 }

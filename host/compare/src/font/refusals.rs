@@ -156,11 +156,18 @@ fn accepted(call: Call) -> Result<(), String> {
     }
 }
 
+/// Both as a whole stroke and as all its rows.
 fn refused(call: Call) -> Result<(), String> {
+    refused_by(call, proved::stroke)?;
+    refused_by(call, |bytes, part, stroke| {
+        proved::stroke_rows(bytes, part, stroke, 16)
+    })
+}
+
+fn refused_by(call: Call, draw: impl Fn(&mut [u8], Part, Stroke) -> bool) -> Result<(), String> {
     let mut fenced = Fenced::new(&[0; BYTES], 4096);
-    let Lent { answer, kept } = fenced.lend(0..0, call.len, |bytes| {
-        proved::stroke(bytes, call.part, call.stroke)
-    });
+    let Lent { answer, kept } =
+        fenced.lend(0..0, call.len, |bytes| draw(bytes, call.part, call.stroke));
     match (answer, kept) {
         (false, true) => Ok(()),
         (true, _) => Err(format!("{call:?} was not refused")),

@@ -11,7 +11,7 @@ use reference::Original;
 pub const STYLES: [(bool, bool); 4] = [(false, false), (false, true), (true, false), (true, true)];
 
 const OPAQUE: [u8; 4] = [255, 255, 255, 255];
-const HALF: [u8; 4] = [200, 100, 50, 128];
+pub const HALF: [u8; 4] = [200, 100, 50, 128];
 
 /// Every glyph in every style, whole inside a picture, opaque and half transparent.
 pub fn every_glyph(original: &Original) -> Count {
@@ -134,7 +134,7 @@ pub fn random(original: &Original, seed: u64, pictures: u64) -> Count {
 }
 
 /// A picture over bytes that are neither all alike nor blank.
-fn filled(width: u32, height: u32, strokes: Vec<Stroke>, cuts: Vec<u32>) -> Picture {
+pub fn filled(width: u32, height: u32, strokes: Vec<Stroke>, cuts: Vec<u32>) -> Picture {
     let mut bytes = vec![0; 4 * width as usize * height as usize];
     Random::new(u64::from(width), u64::from(height)).fill(&mut bytes);
     Picture {

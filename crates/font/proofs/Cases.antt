@@ -1,0 +1,60 @@
+-- Cases of S-2, by computation: the pixels that a comma meets, and a quote that leans, in order.
+use mathlib.Core.Path.{_≡_, refl}
+use mathlib.Core.Bool.{Bool, true, false}
+use mathlib.Core.List.{List, [], _∷_}
+use Prim.Native.Nat.{ℕ, _+_, _-_}
+use lib.ListN.{replicate}
+use Rattle.font.specs.Font.{tabulate, regularTable, glyphRows}
+use Rattle.font.specs.Blend.{blendByte, blendAlpha, blendOver, blendPixel}
+use Rattle.font.specs.Slant.{rowOffsets}
+use Rattle.font.specs.Paint.{origin, paintColumn, paintColumns, strokeRow}
+use Rattle.font.specs.Upward.{strokeAfter, metColumns, metRow, met}
+
+-- on n rows of 8 pixels from the picture's row `first` on, the j lowest rows of a glyph with its left column at position
+-- x and its row 0 on the picture's row 0 meet these pixels
+abbrev Meets : ℕ → Bool → ℕ → ℕ → ℕ → ℕ → List ℕ → Type 0
+Meets code italic x n first j ps = met (glyphRows regularTable code) (rowOffsets italic) x (origin + 12) 8 n first j ≡ ps
+
+-- a clear row of one pixel, on which column 3 of a comma's row 13 falls, is this after j rows of the comma in white
+abbrev After : ℕ → List ℕ → Type 0
+After j row = strokeAfter j (glyphRows regularTable 0x2c) (rowOffsets false) (replicate 4 255) (origin - 3) (origin - 1) 0 (replicate 4 0) ≡ row
+
+pub record Cases : Type 0 where
+  -- a comma's rows 10 to 13 are 38 38 18 30 hexadecimal
+  pub comma : Meets 0x2c false origin 16 0 16 (106 ∷ 107 ∷ 99 ∷ 100 ∷ 90 ∷ 91 ∷ 92 ∷ 82 ∷ 83 ∷ 84 ∷ [])
+  pub comma-none : Meets 0x2c false origin 16 0 0 []
+  pub comma-blank : Meets 0x2c false origin 16 0 2 []
+  pub comma-first : Meets 0x2c false origin 16 0 3 (106 ∷ 107 ∷ [])
+  pub comma-fifteen : Meets 0x2c false origin 16 0 15 (106 ∷ 107 ∷ 99 ∷ 100 ∷ 90 ∷ 91 ∷ 92 ∷ 82 ∷ 83 ∷ 84 ∷ [])
+  -- clipped at each side
+  pub off-left : Meets 0x2c false (origin - 3) 16 0 16 (104 ∷ 96 ∷ 97 ∷ 88 ∷ 89 ∷ 80 ∷ 81 ∷ [])
+  pub off-right : Meets 0x2c false (origin + 5) 16 0 16 (111 ∷ 95 ∷ 87 ∷ [])
+  pub off-below : Meets 0x2c false origin 12 0 16 (90 ∷ 91 ∷ 92 ∷ 82 ∷ 83 ∷ 84 ∷ [])
+  pub off-above : Meets 0x2c false origin 5 11 16 (18 ∷ 19 ∷ 11 ∷ 12 ∷ 2 ∷ 3 ∷ 4 ∷ [])
+  -- a quote's rows 1 to 3 are 18 18 10, and lean by one column
+  pub leaning : Meets 0x27 true origin 16 0 16 (28 ∷ 20 ∷ 21 ∷ 12 ∷ 13 ∷ [])
+  -- a row that is painted, and one that is not yet
+  pub row-early : After 2 (replicate 4 0)
+  pub row-then : After 3 (replicate 4 255)
+  pub row-whole : After 16 (replicate 4 255)
+  pub row-more : After 17 (replicate 4 255)
+
+pub cases : Cases
+unfolding strokeAfter strokeRow paintColumns paintColumn blendPixel blendOver blendByte blendAlpha tabulate regularTable metColumns metRow met
+cases =
+    record {
+      comma = refl;
+      comma-none = refl;
+      comma-blank = refl;
+      comma-first = refl;
+      comma-fifteen = refl;
+      off-left = refl;
+      off-right = refl;
+      off-below = refl;
+      off-above = refl;
+      leaning = refl;
+      row-early = refl;
+      row-then = refl;
+      row-whole = refl;
+      row-more = refl;
+    }
