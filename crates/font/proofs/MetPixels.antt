@@ -133,7 +133,7 @@ module _ (rows offsets : List ℕ) (x base width n first : ℕ) where
     at (off none e) = rw e refl
     at (on i b f e) = rw e (columns-once (i * width) (getD rows r 0) (x + getD offsets r 0 - 8) width 8)
 
-  -- the first row of the part on which one of the j lowest rows may lands
+  -- the first row of the part on which one of the j lowest rows may land
   abbrev start : ℕ → ℕ
   start j = base - bearingY + (16 - j) - (origin + first)
 

@@ -1,6 +1,6 @@
 //! That no sign and no word stands in the text that a reader could not know.
 
-/// Words that would lead out of the text: to proofs, to code, or to tools.
+/// Words that would lead out of the text: to proofs, to code, to tools, or to papers.
 const OUTSIDE: [&str; 8] = [
     "proofs/",
     "specs/",
@@ -9,7 +9,7 @@ const OUTSIDE: [&str; 8] = [
     ".rt",
     "Rattle",
     "promise",
-    "ocument 01",
+    "ocument 0",
 ];
 
 /// Each sign beyond ASCII is one that the notation names, or one of the letters that the glyphs' own

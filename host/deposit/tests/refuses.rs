@@ -139,6 +139,10 @@ faults! {
         "-- the same, and" => "-- as proofs/PixelBlend has it, and",
         contains("`proofs/`");
 
+    a_comment_that_leads_to_another_paper: "crates/font/specs/Upward.antt",
+        "-- no pixel is on" => "-- document 02: no pixel is on",
+        contains("`ocument 0`");
+
     a_sign_that_the_notation_does_not_name: "crates/font/specs/Blend.antt",
         "-- the same, and" => "-- ∀ the same, and",
         contains("the sign ∀ (U+2200)");
