@@ -1,6 +1,6 @@
 -- The pixels that a stroke meets: column by column what is painted, and none twice.
 use mathlib.Core.Path.{_≡_, _∙_, refl, ap}
-use mathlib.Core.Bool.{Bool, true, false, cond, false≢true, _&&_}
+use mathlib.Core.Bool.{Bool, true, false, cond, and-eq-true-iff, _&&_}
 use mathlib.Core.List.{List, [], _∷_, _++_}
 use Prim.Native.Nat.{ℕ, zero, suc, _+_, _-_, _*_, _≤_, _<_}
 use native.Mathlib.Nat.{suc-mul, mul-le-mul-right, le-trans}
@@ -17,14 +17,10 @@ use Rattle.font.proofs.Pixels.{All, all-weaker, all-append, without, bo
 
 -- ---- the columns of a glyph's row
 
-both : (b c : Bool) → (b && c) ≡ true → (b ≡ true) × (c ≡ true)
-both true c e = (refl, e)
-both false c e = absurd (false≢true e)
-
 -- a column that lies on the row
 on-fits : (x width : ℕ) → onRow x (4 * width) ≡ true → (origin ≤ x) × (x - origin < width)
 on-fits x width e =
-    let tests = both (leb origin x) (leb (4 * (x - origin) + 4) (4 * width)) e in
+    let tests = and-eq-true-iff (leb origin x) (leb (4 * (x - origin) + 4) (4 * width)) .0 e in
     let right = leb-true (4 * (x - origin) + 4) (4 * width) (tests .1) in
     (leb-true origin x (tests .0), omega arith)
 
@@ -66,7 +62,7 @@ module _ (p bits x width : ℕ) where
   unfolding All
   next-before c false e = tt
   next-before c true e =
-      let on = on-fits (x + c) width (both (lit bits c) (onRow (x + c) (4 * width)) e .1) in
+      let on = on-fits (x + c) width (and-eq-true-iff (lit bits c) (onRow (x + c) (4 * width)) .0 e .1) in
       let left = on .0 in
       let right = on .1 in
       ((omega arith, omega arith, omega arith), tt)

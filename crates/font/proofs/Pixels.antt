@@ -1,10 +1,10 @@
 -- Laws of lists of pixels: those that have none twice, and a color that is blended into each.
 use mathlib.Core.Path.{_≡_, _∙_, refl, sym, ap}
-use mathlib.Core.Bool.{Bool, true, false, cond, not, false≢true, _&&_, _||_}
+use mathlib.Core.Bool.{Bool, true, false, cond, not, and-eq-true-iff, or-assoc, _||_}
 use mathlib.Core.List.{List, [], _∷_, _++_}
 use Prim.Native.Nat.{ℕ, _+_, _-_, _*_, _≤_, _<_}
 use native.Mathlib.Omega.{arith}
-use borrow.Author.Tests.{ltb-true, ltb-false, eq-eqb, ne-eqb}
+use borrow.Author.Tests.{ltb-true, ltb-false, eq-eqb, ne-eqb, not-true}
 use lib.Dec.{eqb, ltb}
 use lib.ListN.{length, take, drop, take-append-drop}
 use lib.Seq.{take-at, drop-at}
@@ -13,8 +13,8 @@ use Rattle.font.specs.Upward.{pixelAt, blendEach, hasPixel, noneTwice}
 use Rattle.font.proofs.PixelBlend.{take-before, take-with, drop-behind, drop-to}
 
 -- a number is less than another, the same or more
-pub three : {P : Type 0} (a b : ℕ) → (a < b → P) → (a ≡ b → P) → (b < a → P) → P
-three {P} a b less same more = at (ltb a b) refl (ltb b a) refl where
+pub lt-by-cases : {P : Type 0} (a b : ℕ) → (a < b → P) → (a ≡ b → P) → (b < a → P) → P
+lt-by-cases {P} a b less same more = at (ltb a b) refl (ltb b a) refl where
   at : (s : Bool) → ltb a b ≡ s → (t : Bool) → ltb b a ≡ t → P
   at true p t q = less (ltb-true a b p)
   at false p true q = more (ltb-true b a q)
@@ -43,22 +43,19 @@ unfolding All hasPixel
 without p [] e = refl
 without p (q ∷ ps) e = simp (ne-eqb p q (e .0), without p ps (e .1))
 
-both-without : (p : ℕ) (ps qs : List ℕ) → hasPixel p ps ≡ false → hasPixel p qs ≡ false → hasPixel p (ps ++ qs) ≡ false
+-- two lists have the pixels of both
+has-append : (p : ℕ) (ps qs : List ℕ) → hasPixel p (ps ++ qs) ≡ (hasPixel p ps || hasPixel p qs)
 unfolding hasPixel
-both-without p [] qs e f = f
-both-without p (q ∷ ps) qs e f = at (eqb p q) e (λ g. both-without p ps qs g f) where
-  at : (b : Bool) → (b || hasPixel p ps) ≡ false → (hasPixel p ps ≡ false → hasPixel p (ps ++ qs) ≡ false)
-      → (b || hasPixel p (ps ++ qs)) ≡ false
-  at true e rest = e
-  at false e rest = rest e
+has-append p [] qs = refl
+has-append p (q ∷ ps) qs =
+    ap (λ (b : Bool). eqb p q || b) (has-append p ps qs) ∙ sym (or-assoc (eqb p q) (hasPixel p ps) (hasPixel p qs))
 
 -- a list without a pixel twice, cut at its first
-pub first-once : (p : ℕ) (ps : List ℕ) → noneTwice (p ∷ ps) ≡ true → (hasPixel p ps ≡ false) × (noneTwice ps ≡ true)
+first-once : (p : ℕ) (ps : List ℕ) → noneTwice (p ∷ ps) ≡ true → (hasPixel p ps ≡ false) × (noneTwice ps ≡ true)
 unfolding noneTwice
-first-once p ps e = at (hasPixel p ps) e where
-  at : (b : Bool) → (not b && noneTwice ps) ≡ true → (b ≡ false) × (noneTwice ps ≡ true)
-  at false e = (refl, e)
-  at true e = absurd (false≢true e)
+first-once p ps e =
+    let tests = and-eq-true-iff (not (hasPixel p ps)) (noneTwice ps) .0 e in
+    (not-true (hasPixel p ps) (tests .0), tests .1)
 
 -- two lists, of which the second has nothing of the first
 pub both-once : (ps qs : List ℕ) → noneTwice ps ≡ true → noneTwice qs ≡ true → All (λ p. hasPixel p qs ≡ false) ps
@@ -67,7 +64,7 @@ unfolding All noneTwice
 both-once [] qs e f g = f
 both-once (p ∷ ps) qs e f g =
     let first = first-once p ps e in
-    simp (both-without p ps qs (first .0) (g .0), both-once ps qs (first .1) f (g .1))
+    simp (has-append p ps qs, first .0, g .0, both-once ps qs (first .1) f (g .1))
 
 -- ---- a color blended into pixels
 
@@ -102,7 +99,7 @@ blended-once k q [] l e = refl
 blended-once k q (p ∷ ps) l e =
     let first = first-once p ps e in
     let rest = blended-once k q ps (blendPixel k (4 * p) l) (first .1) in
-    three q p
+    lt-by-cases q p
     (λ h. simp (ne-eqb q p (λ s. omega arith)) (rest ∙ rw (pixel-before k p q l h)))
     (λ s. simp (eq-eqb q p s) (rest ∙ rw (s, first .0) (pixel-same k p p l refl)))
     (λ h. simp (ne-eqb q p (λ s. omega arith)) (rest ∙ rw (pixel-behind k p q l h)))

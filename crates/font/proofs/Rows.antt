@@ -21,14 +21,6 @@ row-in i rows size h k =
     let p : suc i * size ≤ rows * size = mul-le-mul-right size h in
     omega (arith, suc-mul i size)
 
--- a loop that goes down from n and has not come to its last
-module _ {last n : ℕ} (h : last < n) where
-  pub less : n - 1 < n
-  less = omega arith
-
-  pub back : n - 1 + 1 ≡ n
-  back = omega arith
-
 -- row i of a part, whose first row is at position start, has row r of a glyph, whose top is at position top, and at least
 -- `left` rows of the glyph are above it
 pub record Falls (rows start top left i r : ℕ) : Type 0 where

@@ -13,7 +13,7 @@ use Rattle.font.specs.Paint.{origin, paintRow, strokeRow, eachRow}
 use Rattle.font.specs.Upward.{strokeAfter, oneRow, pixelAt, blendEach, metRow, met, partAfter, lentRow, DrawnUpward, RowsFromTheBottom}
 use Rattle.font.proofs.Columns.{cond-length}
 use Rattle.font.proofs.Rows.{row-in, rows-kept, rows-one, rows-then, row-at, rows-behind, rows-length, stroke-length, stroke-on, after-on, after-above, after-below, all-rows}
-use Rattle.font.proofs.Pixels.{three, blend-append, blended-once}
+use Rattle.font.proofs.Pixels.{lt-by-cases, blend-append, blended-once}
 use Rattle.font.proofs.MetPixels.{columns-meet, Lands, on, off, lands, met-once}
 
 module _ (rows offsets k : List ℕ) (x base : ℕ) where
@@ -42,7 +42,7 @@ module _ (rows offsets k : List ℕ) (x base : ℕ) where
   low-more : (j y : ℕ) (row : List ℕ) → j < 16 → low (suc j) y row ≡ one (16 - suc j) y (low j y row)
   low-more j y row h =
       let r = 16 - suc j in
-      three (origin + y) (base - bearingY + r)
+      lt-by-cases (origin + y) (base - bearingY + r)
       (λ b. after-above (suc j) rows offsets k x base y row b
       ∙ sym (one-off r y (low j y row) (λ e. omega arith) ∙ after-above j rows offsets k x base y row (omega arith)))
       (λ e. after-on (suc j) rows offsets k x base y row (omega arith)
@@ -53,7 +53,7 @@ module _ (rows offsets k : List ℕ) (x base : ℕ) where
 
   low-none : (y : ℕ) (row : List ℕ) → low 0 y row ≡ row
   low-none y row =
-      three (origin + y) (base - bearingY + 16) (after-above 0 rows offsets k x base y row)
+      lt-by-cases (origin + y) (base - bearingY + 16) (after-above 0 rows offsets k x base y row)
       (λ e. after-below 0 rows offsets k x base y row (omega arith)) (λ b. after-below 0 rows offsets k x base y row (omega arith))
 
   module _ (width n first : ℕ) where
@@ -116,7 +116,7 @@ module _ (rows offsets k : List ℕ) (x base : ℕ) where
           ending = all-rows rows offsets k x base (4 * width) n first part;
           step = λ j i h b.
               row-of (suc j) i b
-              ∙ low-more j (first + i) (lentRow rows offsets k x base width n first i part) h
+              ∙ low-more j (first + i) (lentRow (4 * width) i part) h
               ∙ ap (one (16 - suc j) (first + i)) (sym (row-of j i b));
           inTurn = λ j h. in-turn j part h fits;
           once = met-once rows offsets x base width n first 16 (le-refl 16);
@@ -125,8 +125,8 @@ module _ (rows offsets k : List ℕ) (x base : ℕ) where
           behind = λ j. rows-behind (low j) (4 * width) (λ y row e. low-length j y row ∙ e) n first part fits;
         } where
           row-of : (j i : ℕ) → i < n
-              → lentRow rows offsets k x base width n first i (part-low j part)
-              ≡ low j (first + i) (lentRow rows offsets k x base width n first i part)
+              → lentRow (4 * width) i (part-low j part)
+              ≡ low j (first + i) (lentRow (4 * width) i part)
           row-of j i b = row-at (low j) (4 * width) (λ y row e. low-length j y row ∙ e) i n first part b fits
 
 pub rows-from-the-bottom : RowsFromTheBottom

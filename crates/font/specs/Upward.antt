@@ -25,6 +25,10 @@ unfoldable pub oneRow : ℕ → List ℕ → List ℕ → List ℕ → ℕ → �
 oneRow r rows offsets k x base y row =
     cond (eqb (origin + y) (base - bearingY + r)) (paintRow k (getD rows r 0) (x + getD offsets r 0 - 8) row) row
 
+-- row i of bytes l that begin with rows of rowSize bytes
+abbrev pub lentRow : ℕ → ℕ → List ℕ → List ℕ
+lentRow rowSize i l = take rowSize (drop (i * rowSize) l)
+
 -- ---- pixels, one after the other
 
 -- Pixels are numbered from 0, row after row, so that the four bytes of pixel p begin at 4 · p.
@@ -81,10 +85,6 @@ module _ (rows offsets k : List ℕ) (x base width n first : ℕ) where
   abbrev pub partAfter : ℕ → List ℕ → List ℕ
   partAfter j part = eachRow (strokeAfter j rows offsets k x base) (4 * width) n first part
 
-  -- row i of the bytes
-  abbrev pub lentRow : ℕ → List ℕ → List ℕ
-  lentRow i part = take (4 * width) (drop (i * (4 * width)) part)
-
   -- After none of its rows nothing is painted, and after sixteen the stroke is. With one row more, the glyph's row
   -- 15 − j, the one row that changes is that on which it falls, if there is one, and there it is painted. After j rows
   -- each pixel that they meet has been blended, in this order, and no pixel is met twice. So each pixel is what it was,
@@ -93,8 +93,8 @@ module _ (rows offsets k : List ℕ) (x base width n first : ℕ) where
     pub beginning : partAfter 0 part ≡ part
     pub ending : partAfter cellH part ≡ eachRow (strokeRow rows offsets k x base) (4 * width) n first part
     pub step : (j i : ℕ) → j < cellH → i < n
-        → lentRow i (partAfter (suc j) part)
-        ≡ oneRow (cellH - suc j) rows offsets k x base (first + i) (lentRow i (partAfter j part))
+        → lentRow (4 * width) i (partAfter (suc j) part)
+        ≡ oneRow (cellH - suc j) rows offsets k x base (first + i) (lentRow (4 * width) i (partAfter j part))
     pub inTurn : (j : ℕ) → j ≤ cellH → partAfter j part ≡ blendEach k (met rows offsets x base width n first j) part
     pub once : noneTwice (met rows offsets x base width n first cellH) ≡ true
     pub pixels : (j p : ℕ) → j ≤ cellH

@@ -1,13 +1,14 @@
 -- `draw_lowest_rows` meets its contract.
 use mathlib.Core.Path.{_≡_, _∙_, refl}
-use Prim.Native.Nat.{_+_, _-_, _*_, _≤_, min}
-use native.Mathlib.Nat.{le-refl, le-trans, sub-le, add-sub-cancel-left}
+use Prim.Native.Nat.{_+_, _-_, _*_, _≤_, _<_, min}
+use native.Mathlib.Nat.{le-refl, le-trans, lt-of-le-of-lt, sub-le, sub-add-cancel, add-sub-cancel-left}
 use native.Mathlib.Omega.{arith}
 use lib.ListN.{length}
-use borrow.Author.Needs.{needs}
+use borrow.Author.Count.{falls-down}
+use borrow.Author.Needs.{needs, zero≤}
 use borrow.Rule.Slice.PartMut.{same-len-mid}
 use Rattle.font.specs.Paint.{origin}
-use Rattle.font.proofs.Rows.{row-in, less, back, Falls, falls, Done, done-start, done-turn, done-end}
+use Rattle.font.proofs.Rows.{row-in, Falls, falls, Done, done-start, done-turn, done-end}
 use Rattle.font.proofs.paint.draw_lowest_rows.Statement.{statement}
 use Rattle.font.proofs.paint.draw_lowest_rows.Tie as tie
 
@@ -43,6 +44,10 @@ loop-holds : tie.Need-loop-holds Inv-loop μ-loop
 loop-holds c =
     let i = c .rows-above2 .ensures in
     (rw (c .before .before .rows-left .ensures) at (c .before .rows-above .ensures), rw i (le-refl _), refl, done-start _ _ _ _ _ _ _ _ _ _ _ i)
+
+-- the loop has not come to row 0
+above : (c : tie.In-loop Inv-loop μ-loop) → 0 < c .before .loop .i
+above c = lt-of-le-of-lt zero≤ (c .loop-test .taken)
 
 -- the glyph has a row on row i
 at : (c : tie.In-loop Inv-loop μ-loop)
@@ -99,9 +104,7 @@ draw-row-requires c κs =
     (start .pre .1 .x-least, start .pre .1 .x-most)
 
 loop-less : tie.Need-loop-less Inv-loop μ-loop
-loop-less c =
-    let turn = c .before .before .before .before .before .before .before in
-    less (turn .loop-test .taken)
+loop-less c = falls-down _ (above (c .before .before .before .before .before .before .before))
 
 loop-again : tie.Need-loop-again Inv-loop μ-loop
 loop-again c =
@@ -112,7 +115,7 @@ loop-again c =
     let size = 4 * a .rows .width in
     let i = l .i - 1 in
     let n = i * size + size - i * size in
-    let next : i + 1 ≡ l .i = back (turn .loop-test .taken) in
+    let next : i + 1 ≡ l .i = sub-add-cancel (above turn) in
     let row = drawn .draw-row in (
       l .inv .0,
       le-trans (sub-le (l .i) 1) (l .inv .1),
