@@ -46,7 +46,7 @@ extern "C" {
  * The number of this interface: what is declared here, and what it means. It grows by one with each
  * change of that, an addition too. A program is linked with the library of its header's version.
  */
-#define CAPTIONS_VERSION 1
+#define CAPTIONS_VERSION 2
 
 #define CAPTIONS_TAPE_MAX 16384       /* bytes of a tape */
 #define CAPTIONS_WORKSPACE_MIN 65536  /* bytes of a workspace */
@@ -82,6 +82,13 @@ enum captions_align {
     CAPTIONS_ALIGN_END = 4 /* as RIGHT */
 };
 
+/* How letters are drawn that the font, which ends at U+00FF, has no glyph for. */
+enum captions_glyph_mode {
+    CAPTIONS_GLYPHS_KEPT = 0,    /* all as boxes */
+    CAPTIONS_GLYPHS_REPLACED = 1 /* U+2018 and U+2019 as ', U+201C and U+201D as ", U+2013 and
+                                    U+2014 as -, the others as boxes; lines stay as they are */
+};
+
 /* How a cue is drawn. A color is 0xRRGGBBAA. */
 typedef struct {
     uint32_t width;         /* pixels: at most CAPTIONS_SIDE_MAX; 0 is allowed */
@@ -92,6 +99,7 @@ typedef struct {
     uint32_t bottom_margin; /* pixels from the lowest row up: any number */
     uint32_t outline;       /* pixels around a letter: any number; over 2 it counts as 2 */
     uint32_t alignment;     /* CAPTIONS_ALIGN_CENTER to CAPTIONS_ALIGN_END */
+    uint32_t glyph_mode;    /* CAPTIONS_GLYPHS_KEPT or CAPTIONS_GLYPHS_REPLACED */
 } captions_settings;
 
 /*
@@ -104,10 +112,13 @@ typedef struct {
 } captions_record;
 
 /* Compiles only where the structs are numbers in a row, without padding. */
-typedef char captions_settings_are_8_numbers[sizeof(captions_settings) == 32 ? 1 : -1];
+typedef char captions_settings_are_9_numbers[sizeof(captions_settings) == 36 ? 1 : -1];
 typedef char captions_record_is_65_numbers[sizeof(captions_record) == 260 ? 1 : -1];
 
-/* Usual settings: white letters with a black outline of a pixel, opaque; lines at the center. */
+/*
+ * Usual settings: white letters with a black outline of a pixel, opaque; lines at the center; no
+ * letter replaced.
+ */
 static inline captions_settings captions_settings_usual(uint32_t width, uint32_t height)
 {
     captions_settings usual;
@@ -119,6 +130,7 @@ static inline captions_settings captions_settings_usual(uint32_t width, uint32_t
     usual.bottom_margin = 24;
     usual.outline = 1;
     usual.alignment = CAPTIONS_ALIGN_CENTER;
+    usual.glyph_mode = CAPTIONS_GLYPHS_KEPT;
     return usual;
 }
 

@@ -16,8 +16,8 @@ pub extern "C" fn captions_wrap(tape: &[u8], workspace: &mut [u8], column_limit:
     wrap::wrap(tape, workspace, column_limit).packed()
 }
 
-// The settings from numbers in document 01's order; a color is 0xRRGGBBAA.
-fn settings_of(words: [u32; 8]) -> Settings
+// The settings from numbers in their order; a color is 0xRRGGBBAA.
+fn settings_of(words: [u32; 9]) -> Settings
     ensures { λ r. ⌜ r ≡ settingsOf words ⌝ }
 {
     let own = font::color_bytes(words[2]);
@@ -31,6 +31,7 @@ fn settings_of(words: [u32; 8]) -> Settings
         bottom_margin_px: words[5],
         outline_px: words[6],
         align: words[7],
+        glyph_mode: words[8],
     }
 }
 
@@ -38,7 +39,7 @@ fn settings_of(words: [u32; 8]) -> Settings
 // zeros. A refusal leaves the picture as it is.
 #[no_mangle]
 pub extern "C" fn captions_draw(
-    settings: &[u32; 8],
+    settings: &[u32; 9],
     tape: &[u8],
     workspace: &mut [u8],
     picture: &mut [u8],
@@ -84,7 +85,7 @@ fn words_of(job: JobRecord) -> [u32; 65]
 // how many strokes the tape's caption has. A refusal leaves the picture as it is, and gives zeros.
 #[no_mangle]
 pub extern "C" fn captions_open(
-    settings: &[u32; 8],
+    settings: &[u32; 9],
     tape: &[u8],
     workspace: &mut [u8],
     picture: &mut [u8],
@@ -106,7 +107,7 @@ pub extern "C" fn captions_open(
 // counts them in the record. Answers how many they were. A refusal leaves the picture and the record.
 #[no_mangle]
 pub extern "C" fn captions_work(
-    settings: &[u32; 8],
+    settings: &[u32; 9],
     tape: &[u8],
     workspace: &mut [u8],
     picture: &mut [u8],

@@ -5,7 +5,8 @@ use Prim.Native.Nat.{ℕ, _+_, _-_, _*_}
 use lib.IntN.{negsuc}
 use lib.ListN.{length, getD, replicate}
 use Rattle.font.specs.Blend.{blendByte, blendAlpha, blendOver, blendPixel}
-use Rattle.font.specs.Font.{embolden, tabulate, regularTable}
+use Rattle.font.specs.Modes.{replaced}
+use Rattle.font.specs.Font.{embolden, tabulate, regularTable, boldTable}
 use Rattle.font.specs.Paint.{origin, paintColumn, paintColumns, strokeRow}
 use Rattle.tape.specs.Outcome.{accepted, refused, onAccepted}
 use Rattle.tape.specs.Style.{sameStyle}
@@ -25,9 +26,9 @@ use Rattle.compositor.specs.Picture.{strokesOn, rowAfter}
 use Rattle.compositor.specs.Draw.{tapeStrokes, cueCall, drawCall}
 use Rattle.compositor.specs.Plain.{plainStart}
 
--- white letters with a black outline, in lines as high as a cell
-abbrev pub settings : ℕ → ℕ → ℕ → ℕ → ℕ → Settings
-settings width height margin outline align =
+-- white letters with a black outline, in lines as high as a cell, drawn in a glyph mode
+abbrev pub settingsIn : ℕ → ℕ → ℕ → ℕ → ℕ → ℕ → Settings
+settingsIn mode width height margin outline align =
     record {
       width = width;
       height = height;
@@ -37,7 +38,12 @@ settings width height margin outline align =
       «bottom_margin_px» = margin;
       «outline_px» = outline;
       align = align;
+      «glyph_mode» = mode;
     }
+
+-- in mode 0
+abbrev pub settings : ℕ → ℕ → ℕ → ℕ → ℕ → Settings
+settings = settingsIn 0
 
 -- a picture without rows, L columns wide
 abbrev columns : ℕ → Settings
@@ -102,6 +108,11 @@ pub record Cases : Type 0 where
   -- a control has a cell of its own
   pub control-cell :
       Strokes (λ t. t .x - origin) (settings 32 0 0 0 1) 0 (lettersBytes (0x41 ∷ 0x01 ∷ 0x42 ∷ [])) (8 ∷ 16 ∷ 24 ∷ [])
+  -- a curly quote: in mode 0 the box, whose row 2 is 7E hexadecimal, and in mode 1 a quote, whose row 2 is 18, in bold 1C
+  pub curly-quote :
+      Strokes (λ t. getD (t .rows) 2 0) (settingsIn 0 16 0 0 0 1) 0 (0x03 ∷ 0x20 ∷ 0x19 ∷ []) (0x7e ∷ [])
+      × Strokes (λ t. getD (t .rows) 2 0) (settingsIn 1 16 0 0 0 1) 0 (0x03 ∷ 0x20 ∷ 0x19 ∷ []) (0x18 ∷ [])
+      × Strokes (λ t. getD (t .rows) 2 0) (settingsIn 1 16 0 0 0 1) 0 (0x06 ∷ 0x03 ∷ 0x20 ∷ 0x19 ∷ 0x00 ∷ []) (0x1c ∷ [])
   -- three lines: the last one's base line is 4 rows above the margin
   pub base-lines :
       Strokes (λ t. t .base - origin) (settings 8 60 10 0 1) 1920 (lettersBytes (0x41 ∷ 0x42 ∷ 0x43 ∷ [])) (14 ∷ 30 ∷ 46 ∷ [])
@@ -121,6 +132,7 @@ pub record Cases : Type 0 where
   pub range-first : Refuses (settings 4097 1 0 0 0) 0 (0x0c ∷ []) 8 0
   pub height-range : Refuses (settings 1 4097 0 0 0) 0 (0x0c ∷ []) 8 0
   pub align-range : Refuses (settings 1 1 0 0 5) 4 (0x0c ∷ []) 8 0
+  pub mode-range : Refuses (settingsIn 2 1 1 0 0 0) 0 (0x0c ∷ []) 8 0
   pub short-picture : Refuses (settings 2 3 0 0 0) 23 (0x0c ∷ []) 9 0
   pub long-enough : Refuses (settings 2 3 0 0 0) 24 (0x0c ∷ []) 1 0
   -- the A of a picture of one cell: its row 1 is 18 hexadecimal
@@ -153,18 +165,20 @@ document-01 =
     }
 
 pub cases : Cases
-unfolding cueCall tapeStrokes outOfRange drawing linesStrokes lineStrokes glyphStrokes displacements displacementRows displacementRow lineStart baseLine rowAfter strokesOn strokeRow paintColumns paintColumn blendPixel blendOver blendByte blendAlpha tabulate regularTable wrapRuns visibleCols logicalLines tokenise isSpaceToken chunks putChunks addOrBreak putToken putTokens fill withoutLast upFrom flatten tapeLetters tapeRuns read faultOf commandOf codePoint isLetter isOpener isScalar added mergeInto lettersOf sameStyle letterBytes
+unfolding replaced boldTable cueCall tapeStrokes outOfRange drawing linesStrokes lineStrokes glyphStrokes displacements displacementRows displacementRow lineStart baseLine rowAfter strokesOn strokeRow paintColumns paintColumn blendPixel blendOver blendByte blendAlpha tabulate regularTable wrapRuns visibleCols logicalLines tokenise isSpaceToken chunks putChunks addOrBreak putToken putTokens fill withoutLast upFrom flatten tapeLetters tapeRuns read faultOf commandOf codePoint isLetter isOpener isScalar added mergeInto lettersOf sameStyle letterBytes
 cases =
     record {
       order = refl;
       outline-2 = refl;
       control-cell = refl;
+      curly-quote = (refl, refl, refl);
       base-lines = refl;
       stops = (refl, refl, refl);
       starts = (refl, refl, refl, refl, refl);
       range-first = refl;
       height-range = refl;
       align-range = refl;
+      mode-range = refl;
       short-picture = refl;
       long-enough = refl;
       row = refl;

@@ -16,3 +16,4 @@ pub mod AcceptedCalls  -- a call that is accepted: what is then known, and what 
 pub mod Answers  -- for the layers above: how far the outcome of a call goes
 pub mod Plain  -- document 01's signed formulas for lines, and sums of signed numbers
 pub mod PlainStrokes  -- strokes, offsets and displacements in signed numbers
+pub mod Replaced  -- the law: drawing in glyph mode 1 is drawing the replaced letters in mode 0

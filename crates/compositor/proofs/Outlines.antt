@@ -7,6 +7,7 @@ use native.Mathlib.Omega.{arith}
 use native.Mathlib.Numerals.{add-one}
 use borrow.Author.Tests.{eq-eqb, ne-eqb}
 use lib.ListN.{length, length-append}
+use Rattle.font.specs.declared.GlyphKey.{GlyphKey}
 use Rattle.font.specs.declared.Pen.{Pen}
 use Rattle.font.specs.declared.paint.Spot.{Spot}
 use Rattle.compositor.specs.Outline.{distance, atDistance, displacementRow, displacementRows, displacements}
@@ -33,9 +34,9 @@ unfolding displacementRow
 one-off o dy dx e = rw e
 
 -- loops over a row's columns, and over the rows
-module _ (code : ℕ) (pen : Pen) (o : ℕ) (at : Spot) where
+module _ (key : GlyphKey) (pen : Pen) (o : ℕ) (at : Spot) where
   abbrev strokes : List (ℕ × ℕ) → List Stroke
-  strokes = strokesOf code pen o at
+  strokes = strokesOf key pen o at
 
   abbrev pub rowLeft : ℕ → ℕ → List Stroke
   rowLeft dy dx = strokes (displacementRow o dy dx (2 * o + 1 - dx))

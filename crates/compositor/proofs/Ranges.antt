@@ -8,13 +8,14 @@ use borrow.Author.Tests.{ltb-false}
 use lib.Dec.{ltb}
 use Rattle.tape.specs.Command.{mostLetters}
 use Rattle.compositor.specs.declared.Settings.{Settings}
-use Rattle.compositor.specs.Settings.{mostPixels, mostLineHeight, lastAlign, outOfRange, rowBytes, pictureBytes}
+use Rattle.compositor.specs.Settings.{mostPixels, mostLineHeight, lastAlign, lastGlyphMode, outOfRange, rowBytes, pictureBytes}
 use Rattle.compositor.specs.Ready.{InRange, mostPicture, mostRise}
 
 pub in-range : (s : Settings) → outOfRange s ≡ false → InRange s
 unfolding outOfRange
 in-range s e =
-    by (ltb mostPixels (s .width)) (ltb mostPixels (s .height)) (ltb mostLineHeight (s .«line_height_px»)) (ltb lastAlign (s .align)) refl refl refl e
+    by (ltb mostPixels (s .width)) (ltb mostPixels (s .height)) (ltb mostLineHeight (s .«line_height_px»))
+    (ltb lastAlign (s .align) || ltb lastGlyphMode (s .«glyph_mode»)) refl refl refl e
   where
     by : (a b c d : Bool) → ltb mostPixels (s .width) ≡ a → ltb mostPixels (s .height) ≡ b → ltb mostLineHeight (s .«line_height_px») ≡ c
         → (a || (b || (c || d))) ≡ false → InRange s

@@ -8,6 +8,7 @@ use native.Mathlib.Numerals.{add-one}
 use lib.ListN.{length}
 use Rattle.font.specs.Font.{cellW, tableOf, glyphRows}
 use Rattle.font.specs.Slant.{rowOffsets}
+use Rattle.font.specs.declared.GlyphKey.{GlyphKey}
 use Rattle.font.specs.declared.Pen.{Pen}
 use Rattle.font.specs.declared.paint.Spot.{Spot}
 use Rattle.font.specs.Shear.{penOf, Inked}
@@ -34,25 +35,29 @@ module _ {regular bold slanted : List ℕ} (fonts : Fonts regular bold slanted) 
   offsets-are false = refl
 
   -- what is taken out of the tables is what a pen asks for
-  pub inked : (code : ℕ) (k : List ℕ) (b italic : Bool) {pen : Pen} {glyph offsets : List ℕ} → pen ≡ penOf k b italic
-      → glyph ≡ glyphRows (cond b bold regular) code → offsets ≡ cond italic slanted (rowOffsets false) → Inked code pen glyph offsets
-  inked code k b italic {pen} {glyph} {offsets} p g f =
-      subst (λ (q : Pen). Inked code q glyph offsets) (sym p)
+  pub inked : (key : GlyphKey) (k : List ℕ) (b italic : Bool) {pen : Pen} {glyph offsets : List ℕ} → pen ≡ penOf k b italic
+      → glyph ≡ glyphRows (cond b bold regular) (key .mode) (key .code) → offsets ≡ cond italic slanted (rowOffsets false) → Inked key pen glyph offsets
+  inked key k b italic {pen} {glyph} {offsets} p g f =
+      subst (λ (q : Pen). Inked key q glyph offsets) (sym p)
       record {
         shear = shear-of italic;
-        glyph-is = g ∙ ap (λ (table : List ℕ). glyphRows table code) (table-is b);
+        glyph-is = g ∙ ap (λ (table : List ℕ). glyphRows table (key .mode) (key .code)) (table-is b);
         offsets-are = f ∙ offsets-are italic ∙ ap rowOffsets (sym (leans-back italic));
       }
 
 module _ (s : Settings) where
+  -- what the glyph of a letter is looked up by
+  abbrev pub keyOf : ℕ → GlyphKey
+  keyOf code = record { mode = s .«glyph_mode»; code = code }
+
   -- its strokes are those of its two pens
   pub letter-strokes : (l : Letter) (at : Spot) {code o : ℕ} {outline own : Pen} → code ≡ l .code → o ≡ outlineOf s
       → outline ≡ penOf (s .«outline_color») (l .style .bold) (l .style .italic) → own ≡ penOf (colorOf (l .style)) (l .style .bold) (l .style .italic)
-      → strokesOf code outline o at (displacements o) ++ (strokeOf code own at ∷ []) ≡ letterStrokes s l (at .x) (at .base)
+      → strokesOf (keyOf code) outline o at (displacements o) ++ (strokeOf (keyOf code) own at ∷ []) ≡ letterStrokes s l (at .x) (at .base)
   unfolding glyphStrokes
   letter-strokes l at c r p q =
-      (λ i. strokesOf (c i) (p i) (r i) at (displacements (r i)) ++ (strokeOf (c i) (q i) at ∷ []))
-      ∙ λ i. glyphStrokes (glyphRows (tableOf (l .style .bold)) (l .code)) (rowOffsets (leans-back (l .style .italic) i)) (s .«outline_color») (colorOf (l .style))
+      (λ i. strokesOf (keyOf (c i)) (p i) (r i) at (displacements (r i)) ++ (strokeOf (keyOf (c i)) (q i) at ∷ []))
+      ∙ λ i. glyphStrokes (glyphRows (tableOf (l .style .bold)) (s .«glyph_mode») (l .code)) (rowOffsets (leans-back (l .style .italic) i)) (s .«outline_color») (colorOf (l .style))
       (outlineOf s) (at .x) (at .base)
 
   module _ (ws : List ℕ) where

@@ -8,6 +8,7 @@ pub mod Picture
 pub mod Draw
 pub mod Drawn
 pub mod Plain
+pub mod Replaced
 pub mod Read
 pub mod Painting
 pub mod Ready

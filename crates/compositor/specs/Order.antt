@@ -43,7 +43,7 @@ module _ (s : Settings) where
   abbrev pub letterStrokes : Letter → ℕ → ℕ → List Stroke
   letterStrokes l x base =
       let t = l .style in
-      glyphStrokes (glyphRows (tableOf (t .bold)) (l .code)) (rowOffsets (t .italic)) (s .«outline_color») (colorOf t) (outlineOf s) x base
+      glyphStrokes (glyphRows (tableOf (t .bold)) (s .«glyph_mode») (l .code)) (rowOffsets (t .italic)) (s .«outline_color») (colorOf t) (outlineOf s) x base
 
   -- the strokes of letters on a line, the first at position x: each advances cellW, controls too
   unfoldable pub lineStrokes : ℕ → ℕ → List Letter → List Stroke

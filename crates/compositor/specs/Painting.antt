@@ -10,6 +10,7 @@ use Rattle.font.specs.Font.{cellH, bearingY, tableOf}
 use Rattle.font.specs.Slant.{rowOffsets}
 use Rattle.font.specs.Paint.{origin, eachRow}
 use Rattle.font.specs.Shear.{penGlyph, penOffsets}
+use Rattle.font.specs.declared.GlyphKey.{GlyphKey}
 use Rattle.font.specs.declared.Pen.{Pen}
 use Rattle.font.specs.declared.paint.Rows.{Rows}
 use Rattle.font.specs.declared.paint.Spot.{Spot}
@@ -30,12 +31,12 @@ pub record Fonts (regular bold slanted : List ℕ) : Type 0 where
   pub bold-is : bold ≡ tableOf true
   pub slanted-is : slanted ≡ rowOffsets true
 
--- the stroke of a code point by a pen, and its strokes at the offsets ds of an outline of o
-abbrev pub strokeOf : ℕ → Pen → Spot → Stroke
-strokeOf code pen at = stroke (penGlyph code pen) (penOffsets pen) (pen .color) (at .x) (at .base)
+-- the stroke of a key's glyph by a pen, and its strokes at the offsets ds of an outline of o
+abbrev pub strokeOf : GlyphKey → Pen → Spot → Stroke
+strokeOf key pen at = stroke (penGlyph key pen) (penOffsets pen) (pen .color) (at .x) (at .base)
 
-abbrev pub strokesOf : ℕ → Pen → ℕ → Spot → List (ℕ × ℕ) → List Stroke
-strokesOf code pen o at ds = outlineStrokes (penGlyph code pen) (penOffsets pen) (pen .color) o (at .x) (at .base) ds
+abbrev pub strokesOf : GlyphKey → Pen → ℕ → Spot → List (ℕ × ℕ) → List Stroke
+strokesOf key pen o at ds = outlineStrokes (penGlyph key pen) (penOffsets pen) (pen .color) o (at .x) (at .base) ds
 
 -- those of the strokes ts that a window has, and the window counted from the strokes after n others
 abbrev pub cut : Window → List Stroke → List Stroke

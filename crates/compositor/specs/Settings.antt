@@ -1,11 +1,12 @@
--- The settings: document 01, "Settings". Definitions only.
+-- The settings: document 01, "Settings", and document 02, S-3. Definitions only.
 -- A call may be given any numbers below 2^32; `outOfRange` says which are refused.
 use mathlib.Core.Bool.{Bool, _||_}
 use Prim.Native.Nat.{ℕ, _*_}
 use lib.Dec.{ltb}
 use Rattle.compositor.specs.declared.Settings.{Settings}
 
--- the largest width and height, the largest line height, and the last alignment; bottom margin and outline may be any
+-- the largest width and height, the largest line height, the last alignment, and the last glyph mode; bottom margin and
+-- outline may be any
 abbrev pub mostPixels : ℕ
 mostPixels = 4096
 
@@ -15,10 +16,15 @@ mostLineHeight = 1024
 abbrev pub lastAlign : ℕ
 lastAlign = 4
 
+abbrev pub lastGlyphMode : ℕ
+lastGlyphMode = 1
+
 unfoldable pub outOfRange : Settings → Bool
 outOfRange s =
     ltb mostPixels (s .width)
-    || (ltb mostPixels (s .height) || (ltb mostLineHeight (s .«line_height_px») || ltb lastAlign (s .align)))
+    || (ltb mostPixels (s .height)
+    || (ltb mostLineHeight (s .«line_height_px»)
+    || (ltb lastAlign (s .align) || ltb lastGlyphMode (s .«glyph_mode»))))
 
 -- the bytes of a row, and of the picture: its rows from the top, each its pixels from the left, four bytes a pixel
 abbrev pub rowBytes : Settings → ℕ

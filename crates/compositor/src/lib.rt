@@ -26,11 +26,13 @@ const MOST_LINE_HEIGHT: u32 = 1024;
 
 const LAST_ALIGN: u32 = 4;
 
+const LAST_GLYPH_MODE: u32 = 1;
+
 const MOST_OUTLINE: u32 = 2;
 
-// The eight settings, in the order in which they are kept. Sizes are in pixels; colors are red, green,
+// The nine settings, in the order in which they are kept. Sizes are in pixels; colors are red, green,
 // blue, alpha; `align`, the alignment, is 0 centre, 1 left, 2 start, which is as left, 3 right, 4 end,
-// which is as right.
+// which is as right; `glyph_mode` 1 draws curly quotes and dashes as plain ones, 0 as boxes.
 pub struct Settings {
     pub width: u32,
     pub height: u32,
@@ -40,6 +42,7 @@ pub struct Settings {
     pub bottom_margin_px: u32,
     pub outline_px: u32,
     pub align: u32,
+    pub glyph_mode: u32,
 }
 
 impl Settings {
@@ -55,7 +58,10 @@ impl Settings {
         if MOST_LINE_HEIGHT < self.line_height_px {
             return true;
         }
-        LAST_ALIGN < self.align
+        if LAST_ALIGN < self.align {
+            return true;
+        }
+        LAST_GLYPH_MODE < self.glyph_mode
     }
 
     pub fn picture_bytes(self) -> usize

@@ -21,6 +21,7 @@ ghost use Rattle.compositor.specs.Ready.{mostLines, InRange, Lined};
 use crate::Settings;
 use crate::layout;
 use font::BitmapFont;
+use font::GlyphKey;
 use font::ORIGIN;
 use font::Pen;
 use font::Rows;
@@ -63,25 +64,25 @@ impl Window {
     }
 }
 
-// Draws one stroke, if the window has it. `code` is the code point whose glyph is lent, here and in
-// the functions of an outline.
+// Draws one stroke, if the window has it. `key` is what the glyph that is lent was looked up by, here
+// and in the functions of an outline.
 fn draw_stroke(
     part: &mut [u8],
     rows: Rows,
-    code: u32,
+    key: GlyphKey,
     glyph: &[u8; 16],
     offsets: &[u8; 16],
     at: Spot,
     pen: Pen,
     window: Window,
 ) -> Window
-    requires { ⌜ Lent (length (now part)) rows × Reachable at × Inked code pen (now glyph) (now offsets) ⌝ }
-    ensures { λ r. ⌜ Painted rows (strokeOf code pen at ∷ []) window (now (part .entry)) (now (part .exit)) r ⌝ }
+    requires { ⌜ Lent (length (now part)) rows × Reachable at × Inked key pen (now glyph) (now offsets) ⌝ }
+    ensures { λ r. ⌜ Painted rows (strokeOf key pen at ∷ []) window (now (part .entry)) (now (part .exit)) r ⌝ }
 {
     if window.misses(1) {
         return window.past(1);
     }
-    font::draw_glyph_sheared(part, rows, code, glyph, offsets, at, pen);
+    font::draw_glyph_sheared(part, rows, key, glyph, offsets, at, pen);
     window.past(1)
 }
 
@@ -104,7 +105,7 @@ fn is_at_distance(o: usize, dx: usize, dy: usize) -> bool
 fn draw_displaced(
     part: &mut [u8],
     rows: Rows,
-    code: u32,
+    key: GlyphKey,
     glyph: &[u8; 16],
     offsets: &[u8; 16],
     at: Spot,
@@ -114,9 +115,9 @@ fn draw_displaced(
     dy: usize,
     window: Window,
 ) -> Window
-    requires { ⌜ Lent (length (now part)) rows × Near at × Inked code pen (now glyph) (now offsets)
+    requires { ⌜ Lent (length (now part)) rows × Near at × Inked key pen (now glyph) (now offsets)
         × (o ≤ mostOutline) × (dx ≤ 2 * o) × (dy ≤ 2 * o) ⌝ }
-    ensures { λ r. ⌜ Painted rows (strokesOf code pen o at (displacementRow o dy dx 1))
+    ensures { λ r. ⌜ Painted rows (strokesOf key pen o at (displacementRow o dy dx 1))
         window (now (part .entry)) (now (part .exit)) r ⌝ }
 {
     if !is_at_distance(o, dx, dy) {
@@ -125,14 +126,14 @@ fn draw_displaced(
     let x = at.x + dx - o;
     let base = at.base + dy - o;
     let beside = Spot { x, base };
-    draw_stroke(part, rows, code, glyph, offsets, beside, pen, window)
+    draw_stroke(part, rows, key, glyph, offsets, beside, pen, window)
 }
 
 // Draws the strokes of the outline's row dy.
 fn draw_outline_row(
     part: &mut [u8],
     rows: Rows,
-    code: u32,
+    key: GlyphKey,
     glyph: &[u8; 16],
     offsets: &[u8; 16],
     at: Spot,
@@ -141,15 +142,15 @@ fn draw_outline_row(
     dy: usize,
     window: Window,
 ) -> Window
-    requires { ⌜ Lent (length (now part)) rows × Near at × Inked code pen (now glyph) (now offsets)
+    requires { ⌜ Lent (length (now part)) rows × Near at × Inked key pen (now glyph) (now offsets)
         × (o ≤ mostOutline) × (dy ≤ 2 * o) ⌝ }
-    ensures { λ r. ⌜ Painted rows (strokesOf code pen o at (displacementRow o dy 0 (2 * o + 1)))
+    ensures { λ r. ⌜ Painted rows (strokesOf key pen o at (displacementRow o dy 0 (2 * o + 1)))
         window (now (part .entry)) (now (part .exit)) r ⌝ }
 {
     let mut left = window;
     let mut dx = 0;
     while dx < 2 * o + 1 {
-        left = draw_displaced(part, rows, code, glyph, offsets, at, pen, o, dx, dy, left);
+        left = draw_displaced(part, rows, key, glyph, offsets, at, pen, o, dx, dy, left);
         dx += 1;
     }
     left
@@ -159,7 +160,7 @@ fn draw_outline_row(
 fn draw_outline(
     part: &mut [u8],
     rows: Rows,
-    code: u32,
+    key: GlyphKey,
     glyph: &[u8; 16],
     offsets: &[u8; 16],
     at: Spot,
@@ -167,8 +168,8 @@ fn draw_outline(
     o: usize,
     window: Window,
 ) -> Window
-    requires { ⌜ Lent (length (now part)) rows × Near at × Inked code pen (now glyph) (now offsets) × (o ≤ mostOutline) ⌝ }
-    ensures { λ r. ⌜ Painted rows (strokesOf code pen o at (displacements o)) window (now (part .entry)) (now (part .exit)) r ⌝ }
+    requires { ⌜ Lent (length (now part)) rows × Near at × Inked key pen (now glyph) (now offsets) × (o ≤ mostOutline) ⌝ }
+    ensures { λ r. ⌜ Painted rows (strokesOf key pen o at (displacements o)) window (now (part .entry)) (now (part .exit)) r ⌝ }
 {
     if o == 0 {
         return window;
@@ -176,20 +177,20 @@ fn draw_outline(
     let mut left = window;
     let mut dy = 0;
     while dy < 2 * o + 1 {
-        left = draw_outline_row(part, rows, code, glyph, offsets, at, pen, o, dy, left);
+        left = draw_outline_row(part, rows, key, glyph, offsets, at, pen, o, dy, left);
         dy += 1;
     }
     left
 }
 
 // A letter's glyph out of the font of its bold mark.
-fn glyph_of(regular: &[u8; 4096], bold: &[u8; 4096], is_bold: bool, code: u32) -> [u8; 16]
-    ensures { λ r. ⌜ r ≡ glyphRows (cond «is_bold» (now (bold .entry)) (now (regular .entry))) code ⌝ }
+fn glyph_of(regular: &[u8; 4096], bold: &[u8; 4096], is_bold: bool, key: GlyphKey) -> [u8; 16]
+    ensures { λ r. ⌜ r ≡ glyphRows (cond «is_bold» (now (bold .entry)) (now (regular .entry))) (key .mode) (key .code) ⌝ }
 {
     if is_bold {
-        return font::glyph_rows(bold, code);
+        return font::glyph_rows(bold, key);
     }
-    font::glyph_rows(regular, code)
+    font::glyph_rows(regular, key)
 }
 
 // A letter's offsets. The rows of an upright letter stay: 8 each.
@@ -222,7 +223,10 @@ fn draw_letter(
     if window.misses(strokes) {
         return window.past(strokes);
     }
-    let code = letter::code(ws, number);
+    let key = GlyphKey {
+        mode: s.glyph_mode,
+        code: letter::code(ws, number),
+    };
     let style = letter::style(ws, number);
     let around = s.outline_color;
     let outline = Pen::new(around, style.bold, style.italic);
@@ -231,11 +235,11 @@ fn draw_letter(
         style.bold,
         style.italic,
     );
-    let glyph = glyph_of(regular, bold, own.bold, code);
+    let glyph = glyph_of(regular, bold, own.bold, key);
     let offsets = offsets_of(slanted, style.italic);
     let o = s.outline();
-    let left = draw_outline(part, rows, code, &glyph, &offsets, at, outline, o, window);
-    draw_stroke(part, rows, code, &glyph, &offsets, at, own, left)
+    let left = draw_outline(part, rows, key, &glyph, &offsets, at, outline, o, window);
+    draw_stroke(part, rows, key, &glyph, &offsets, at, own, left)
 }
 
 // Draws letters on lines, the first of them at the spot `start`.

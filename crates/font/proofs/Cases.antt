@@ -1,10 +1,12 @@
--- Cases of S-2, by computation: the pixels that a comma meets, and a quote that leans, in order.
+-- Cases by computation. Of S-2: the pixels that a comma meets, and a quote that leans, in order. Of S-3: what is drawn
+-- for code points in each mode.
 use mathlib.Core.Path.{_≡_, refl}
 use mathlib.Core.Bool.{Bool, true, false}
-use mathlib.Core.List.{List, [], _∷_}
+use mathlib.Core.List.{List, [], _∷_, _++_, map}
 use Prim.Native.Nat.{ℕ, _+_, _-_}
 use lib.ListN.{replicate}
-use Rattle.font.specs.Font.{tabulate, regularTable, glyphRows}
+use Rattle.font.specs.Modes.{replaced, drawnCode}
+use Rattle.font.specs.Font.{tabulate, regularTable, boldTable, missingRows, glyphRows}
 use Rattle.font.specs.Blend.{blendByte, blendAlpha, blendOver, blendPixel}
 use Rattle.font.specs.Slant.{rowOffsets}
 use Rattle.font.specs.Paint.{origin, paintColumn, paintColumns, strokeRow}
@@ -13,11 +15,11 @@ use Rattle.font.specs.Upward.{strokeAfter, metColumns, metRow, met}
 -- on n rows of 8 pixels from the picture's row `first` on, the j lowest rows of a glyph with its left column at position
 -- x and its row 0 on the picture's row 0 meet these pixels
 abbrev Meets : ℕ → Bool → ℕ → ℕ → ℕ → ℕ → List ℕ → Type 0
-Meets code italic x n first j ps = met (glyphRows regularTable code) (rowOffsets italic) x (origin + 12) 8 n first j ≡ ps
+Meets code italic x n first j ps = met (glyphRows regularTable 0 code) (rowOffsets italic) x (origin + 12) 8 n first j ≡ ps
 
 -- a clear row of one pixel, on which column 3 of a comma's row 13 falls, is this after j rows of the comma in white
 abbrev After : ℕ → List ℕ → Type 0
-After j row = strokeAfter j (glyphRows regularTable 0x2c) (rowOffsets false) (replicate 4 255) (origin - 3) (origin - 1) 0 (replicate 4 0) ≡ row
+After j row = strokeAfter j (glyphRows regularTable 0 0x2c) (rowOffsets false) (replicate 4 255) (origin - 3) (origin - 1) 0 (replicate 4 0) ≡ row
 
 pub record Cases : Type 0 where
   -- a comma's rows 10 to 13 are 38 38 18 30 hexadecimal
@@ -57,4 +59,43 @@ cases =
       row-then = refl;
       row-whole = refl;
       row-more = refl;
+    }
+
+-- ---- modes
+
+-- in a mode code points are drawn as others
+abbrev Draws : ℕ → List ℕ → List ℕ → Type 0
+Draws mode codes others = map (drawnCode mode) codes ≡ others
+
+abbrev six : List ℕ
+six = 0x2018 ∷ 0x2019 ∷ 0x201c ∷ 0x201d ∷ 0x2013 ∷ 0x2014 ∷ []
+
+-- code points beside the six, and what these are drawn as
+abbrev beside : List ℕ
+beside = 0x2012 ∷ 0x2015 ∷ 0x2017 ∷ 0x201a ∷ 0x201b ∷ 0x201e ∷ 0x22 ∷ 0x27 ∷ 0x2d ∷ 0 ∷ 0x10ffff ∷ []
+
+pub record ModeCases : Type 0 where
+  pub replaced-in-1 : Draws 1 six (0x27 ∷ 0x27 ∷ 0x22 ∷ 0x22 ∷ 0x2d ∷ 0x2d ∷ [])
+  pub kept-in-1 : Draws 1 beside beside
+  pub kept-in-0 : Draws 0 six six
+  -- no call draws in another mode
+  pub kept-in-2 : Draws 2 six six
+  -- a quote, which is bold in bold; the box, which never is
+  pub quote : glyphRows regularTable 1 0x2019 ≡ (0 ∷ 0x18 ∷ 0x18 ∷ 0x10 ∷ []) ++ replicate 12 0
+  pub bold-quote : glyphRows boldTable 1 0x2018 ≡ (0 ∷ 0x1c ∷ 0x1c ∷ 0x18 ∷ []) ++ replicate 12 0
+  pub box-in-0 : glyphRows boldTable 0 0x2018 ≡ missingRows
+  pub box-in-1 : glyphRows boldTable 1 0x2015 ≡ missingRows
+
+pub mode-cases : ModeCases
+unfolding replaced tabulate regularTable boldTable
+mode-cases =
+    record {
+      replaced-in-1 = refl;
+      kept-in-1 = refl;
+      kept-in-0 = refl;
+      kept-in-2 = refl;
+      quote = refl;
+      bold-quote = refl;
+      box-in-0 = refl;
+      box-in-1 = refl;
     }

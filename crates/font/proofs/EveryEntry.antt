@@ -1,9 +1,9 @@
--- A rule that holds at each entry of a list, by one test that antt computes; and at each number below n, by as many
--- proofs.
+-- A rule that holds at each entry of a list, by one test that antt computes, or by as many proofs; and at each number
+-- below n.
 use mathlib.Core.Path.{_∙_, subst, sym}
 use mathlib.Core.Logic.{⊎-elim}
 use mathlib.Core.Bool.{Bool, true, _&&_}
-use mathlib.Core.List.{List, [], _∷_}
+use mathlib.Core.List.{List, [], _∷_, _++_}
 use Prim.Native.Nat.{ℕ, zero, suc, _+_, _<_}
 use native.Mathlib.Nat.{add-zero, zero-add, add-suc, suc-add, le-of-suc-le-suc, not-suc-le-zero, eq-or-lt-of-le}
 use lib.Dec.{T}
@@ -25,6 +25,22 @@ module _ {A : Type 0} (f : ℕ → A → Bool) where
 
   pub at : (d : A) (xs : List A) → T (every 0 xs) → (k : ℕ) → k < length xs → T (f k (getD xs k d))
   at d xs t k h = subst (λ (m : ℕ). T (f m (getD xs k d))) (zero-add k) (from d xs 0 t k h)
+
+module _ {A : Type 0} where
+  unfoldable pub All : (A → Type 0) → List A → Type 0
+  All P [] = Unit
+  All P (x ∷ xs) = P x × All P xs
+
+  module _ (P : A → Type 0) where
+    pub all-weaker : {Q : A → Type 0} (xs : List A) → ((x : A) → P x → Q x) → All P xs → All Q xs
+    unfolding All
+    all-weaker [] f e = tt
+    all-weaker (x ∷ xs) f e = (f x (e .0), all-weaker xs f (e .1))
+
+    pub all-append : (xs ys : List A) → All P xs → All P ys → All P (xs ++ ys)
+    unfolding All
+    all-append [] ys e f = f
+    all-append (x ∷ xs) ys e f = (e .0, all-append xs ys (e .1) f)
 
 abbrev pub Each : (ℕ → Type 0) → ℕ → Type 0
 Each P zero = Unit

@@ -13,7 +13,8 @@ use Rattle.font.specs.Blend.{blendPixel}
 use Rattle.font.specs.Paint.{origin, onRow, lit, paintColumn, paintColumns}
 use Rattle.font.specs.Upward.{blendEach, hasPixel, noneTwice, metColumns, metRow, met}
 use Rattle.font.proofs.Columns.{columns-length}
-use Rattle.font.proofs.Pixels.{All, all-weaker, all-append, without, both-once, blend-append, pixel-between}
+use Rattle.font.proofs.EveryEntry.{All, all-weaker, all-append}
+use Rattle.font.proofs.Pixels.{without, both-once, blend-append, pixel-between}
 
 -- ---- the columns of a glyph's row
 

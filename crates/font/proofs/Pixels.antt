@@ -10,6 +10,7 @@ use lib.ListN.{length, take, drop, take-append-drop}
 use lib.Seq.{take-at, drop-at}
 use Rattle.font.specs.Blend.{blendPixel}
 use Rattle.font.specs.Upward.{pixelAt, blendEach, hasPixel, noneTwice}
+use Rattle.font.proofs.EveryEntry.{All}
 use Rattle.font.proofs.PixelBlend.{take-before, take-with, drop-behind, drop-to}
 
 -- a number is less than another, the same or more
@@ -21,21 +22,6 @@ lt-by-cases {P} a b less same more = at (ltb a b) refl (ltb b a) refl where
   at false p false q = let h = ltb-false a b p in let k = ltb-false b a q in same (omega arith)
 
 -- ---- lists without a pixel twice
-
-unfoldable pub All : (ℕ → Type 0) → List ℕ → Type 0
-All P [] = Unit
-All P (p ∷ ps) = P p × All P ps
-
-module _ (P : ℕ → Type 0) where
-  pub all-weaker : {Q : ℕ → Type 0} (ps : List ℕ) → ((p : ℕ) → P p → Q p) → All P ps → All Q ps
-  unfolding All
-  all-weaker [] f e = tt
-  all-weaker (p ∷ ps) f e = (f p (e .0), all-weaker ps f (e .1))
-
-  pub all-append : (ps qs : List ℕ) → All P ps → All P qs → All P (ps ++ qs)
-  unfolding All
-  all-append [] qs e f = f
-  all-append (p ∷ ps) qs e f = (e .0, all-append ps qs (e .1) f)
 
 -- a list of others has not this pixel
 pub without : (p : ℕ) (ps : List ℕ) → All (λ q. p ≡ q → ⊥) ps → hasPixel p ps ≡ false

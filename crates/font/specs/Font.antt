@@ -6,6 +6,7 @@ use lib.Bits.{bitOr}
 use lib.Dec.{ltb}
 use lib.ListN.{getD}
 use Rattle.font.specs.Glyphs.{glyphs, missing}
+use Rattle.font.specs.Modes.{drawnCode}
 
 -- a cell is 8 pixels wide and 16 high, and the base line lies 12 rows below its top, in both fonts
 abbrev pub cellW : ℕ
@@ -54,6 +55,11 @@ tableOf bold = cond bold boldTable regularTable
 abbrev pub missingRows : List ℕ
 missingRows = rowsOf cellH missing
 
--- the sixteen rows of a code point's glyph, r their number, in a font's table; the box is the same in both fonts
-abbrev pub glyphRows : List ℕ → ℕ → List ℕ
-glyphRows table code = cond (ltb code 256) (tabulate (λ r. getD table (code * cellH + r) 0) cellH) missingRows
+-- the sixteen rows of the glyph of one of the 256 code points in a font's table, r their number
+abbrev pub rowsAt : List ℕ → ℕ → List ℕ
+rowsAt table code = tabulate (λ r. getD table (code * cellH + r) 0) cellH
+
+-- the sixteen rows that are drawn for a code point in a glyph mode, out of a font's table; the box is the same in both
+-- fonts
+abbrev pub glyphRows : List ℕ → ℕ → ℕ → List ℕ
+glyphRows table mode code = let drawn = drawnCode mode code in cond (ltb drawn 256) (rowsAt table drawn) missingRows

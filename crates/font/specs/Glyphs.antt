@@ -244,6 +244,6 @@ unfoldable pub glyphs : List ℕ
 unfolding printable glyphOf latin1
 glyphs = replicate 33 0 ++ (printable ++ (replicate 34 0 ++ map glyphOf latin1))
 
--- the hollow box of every code point from 256 on
+-- the hollow box, for code points from 256 on
 abbrev pub missing : ℕ
 missing = 0x00007e42_42424242_42424242_427e0000

@@ -1,6 +1,7 @@
 -- The definitions in reading order, then the promises that the crate's functions make to each other.
 pub mod Signs
 pub mod Glyphs
+pub mod Modes
 pub mod Font
 pub mod Slant
 pub mod Blend

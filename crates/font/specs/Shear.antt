@@ -10,6 +10,7 @@ use Rattle.font.specs.Font.{cellW, cellH, bearingY, tableOf, glyphRows}
 use Rattle.font.specs.Slant.{nearest, rowOffsets}
 use Rattle.font.specs.Paint.{strokeRow}
 use Rattle.font.specs.declared.BitmapFont.{BitmapFont}
+use Rattle.font.specs.declared.GlyphKey.{GlyphKey}
 use Rattle.font.specs.declared.Pen.{Pen}
 use Rattle.font.specs.declared.paint.Spot.{Spot}
 
@@ -39,22 +40,22 @@ leans x = lt (float 0) x
 pub record Shear (x : Float) : Type 0 where
   pub is : x ≡ shearOf (leans x)
 
--- the rows of a code point's glyph in the font that a pen's bold mark picks, and how far the pen moves them
-abbrev pub penGlyph : ℕ → Pen → List ℕ
-penGlyph code pen = glyphRows (tableOf (pen .bold)) code
+-- the rows of the glyph that a key has in the font that a pen's bold mark picks, and how far the pen moves them
+abbrev pub penGlyph : GlyphKey → Pen → List ℕ
+penGlyph key pen = glyphRows (tableOf (pen .bold)) (key .mode) (key .code)
 
 abbrev pub penOffsets : Pen → List ℕ
 penOffsets pen = rowOffsets (leans (pen .shear))
 
--- what is lent beside a pen, for the stroke of a code point: exactly these
-pub record Inked (code : ℕ) (pen : Pen) (glyph offsets : List ℕ) : Type 0 where
+-- what is lent beside a pen, for the stroke of a key's glyph: exactly these
+pub record Inked (key : GlyphKey) (pen : Pen) (glyph offsets : List ℕ) : Type 0 where
   pub shear : Shear (pen .shear)
-  pub glyph-is : glyph ≡ penGlyph code pen
+  pub glyph-is : glyph ≡ penGlyph key pen
   pub offsets-are : offsets ≡ penOffsets pen
 
--- the picture's row y with what the stroke of a code point by a pen has there
-abbrev pub penRow : ℕ → Pen → Spot → ℕ → List ℕ → List ℕ
-penRow code pen at y row = strokeRow (penGlyph code pen) (penOffsets pen) (pen .color) (at .x) (at .base) y row
+-- the picture's row y with what the stroke of a key's glyph by a pen has there
+abbrev pub penRow : GlyphKey → Pen → Spot → ℕ → List ℕ → List ℕ
+penRow key pen at y row = strokeRow (penGlyph key pen) (penOffsets pen) (pen .color) (at .x) (at .base) y row
 
 -- what row r of a pen moves by before it is rounded: product before quotient
 unfoldable pub moved : Bool → ℕ → Float

@@ -11,6 +11,7 @@ pub use paint::draw_lowest_rows;
 ghost use mathlib.Core.Path.{_≡_};
 ghost use mathlib.Core.Bool.{true, false};
 ghost use Prim.Native.Nat.{_<_};
+ghost use Rattle.font.specs.Modes.{drawnCode};
 ghost use Rattle.font.specs.Font.{tableOf, glyphRows};
 ghost use Rattle.font.specs.Colors.{colorBytes};
 ghost use Rattle.font.specs.Slant.{rowOffset, rowOffsets};
@@ -54,10 +55,35 @@ impl BitmapFont {
     }
 }
 
+// What a glyph is looked up by: a code point, and the glyph mode that it is drawn in.
+pub struct GlyphKey {
+    pub mode: u32,
+    pub code: u32,
+}
+
+impl GlyphKey {
+    // The code point whose glyph is drawn. In mode 1 curly quotes and dashes are drawn as plain ones.
+    fn drawn_code(self) -> u32
+        ensures { λ r. ⌜ r ≡ drawnCode (self .mode) (self .code) ⌝ }
+    {
+        let code = self.code;
+        if self.mode != 1 {
+            return code;
+        }
+        match code {
+            0x2018 | 0x2019 => 0x27,
+            0x201c | 0x201d => 0x22,
+            0x2013 | 0x2014 => 0x2d,
+            _ => code,
+        }
+    }
+}
+
 // A glyph's rows out of a font's table.
-pub fn glyph_rows(table: &[u8; 4096], code: u32) -> [u8; 16]
-    ensures { λ r. ⌜ r ≡ glyphRows (now (table .entry)) code ⌝ }
+pub fn glyph_rows(table: &[u8; 4096], key: GlyphKey) -> [u8; 16]
+    ensures { λ r. ⌜ r ≡ glyphRows (now (table .entry)) (key .mode) (key .code) ⌝ }
 {
+    let code = key.drawn_code();
     if 256 <= code {
         return tables::MISSING_GLYPH;
     }

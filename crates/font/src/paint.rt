@@ -9,6 +9,7 @@ ghost use Rattle.font.specs.Upward.{partAfter};
 ghost use Rattle.font.specs.Shear.{penRow, Inked};
 ghost use Rattle.font.specs.Lent.{mostLent, Lent, Reachable};
 use crate::BitmapFont;
+use crate::GlyphKey;
 use crate::Pen;
 
 // The position of the picture's column 0 and row 0.
@@ -160,21 +161,21 @@ pub fn draw_lowest_rows(
     }
 }
 
-// Draws the glyph of a code point with a pen, into lent rows of a picture. The glyph's rows and the
-// offsets that the pen moves them by are lent too, so that strokes share them; `code` and the pen say
-// which they are. A clear color draws nothing.
+// Draws a glyph with a pen, into lent rows of a picture. The glyph's rows and the offsets that the pen
+// moves them by are lent too, so that strokes share them; the key and the pen say which they are. A
+// clear color draws nothing.
 pub fn draw_glyph_sheared(
     part: &mut [u8],
     rows: Rows,
-    code: u32,
+    key: GlyphKey,
     glyph: &[u8; 16],
     offsets: &[u8; 16],
     at: Spot,
     pen: Pen,
 )
-    requires { ⌜ Lent (length (now part)) rows × Reachable at × Inked code pen (now glyph) (now offsets) ⌝ }
+    requires { ⌜ Lent (length (now part)) rows × Reachable at × Inked key pen (now glyph) (now offsets) ⌝ }
     ensures { λ _. ⌜ now (part .exit)
-        ≡ eachRow (penRow code pen at) (4 * rows .width) (rows .count) (rows .first) (now (part .entry)) ⌝ }
+        ≡ eachRow (penRow key pen at) (4 * rows .width) (rows .count) (rows .first) (now (part .entry)) ⌝ }
 {
     let color = pen.color;
     if color[3] == 0 {

@@ -22,29 +22,29 @@ admitted n width rows first x y =
     leb width mostLent && (leb rows mostLent && (leb first mostLent && (near x && (near y && leb (rows * (4 * width)) n))))
 
 -- the part l after one stroke; a part, or a position, that is not admitted changes nothing
-unfoldable pub stroked : ℕ → ℕ → ℕ → ℕ → Bool → Bool → ℕ → ℕ → ℕ → List ℕ → List ℕ
-stroked width rows first code bold italic k x y l =
+unfoldable pub stroked : ℕ → ℕ → ℕ → ℕ → ℕ → Bool → Bool → ℕ → ℕ → ℕ → List ℕ → List ℕ
+stroked width rows first mode code bold italic k x y l =
     cond (admitted (length l) width rows first x y)
-    (eachRow (strokeRow (glyphRows (tableOf bold) code) (rowOffsets italic) (colorBytes k) x y) (4 * width) rows first l)
+    (eachRow (strokeRow (glyphRows (tableOf bold) mode code) (rowOffsets italic) (colorBytes k) x y) (4 * width) rows first l)
     l
 
 -- the answer of a stroke, and the part before and after it
-pub record Stroked (width rows first code : ℕ) (bold italic : Bool) (k x y : ℕ) (before after : List ℕ) (answer : Bool) : Type 0 where
+pub record Stroked (width rows first mode code : ℕ) (bold italic : Bool) (k x y : ℕ) (before after : List ℕ) (answer : Bool) : Type 0 where
   pub answers : answer ≡ admitted (length before) width rows first x y
-  pub leaves : after ≡ stroked width rows first code bold italic k x y before
+  pub leaves : after ≡ stroked width rows first mode code bold italic k x y before
 
 -- the same of the j lowest rows of a stroke
-unfoldable pub strokedRows : ℕ → ℕ → ℕ → ℕ → ℕ → Bool → Bool → ℕ → ℕ → ℕ → List ℕ → List ℕ
-strokedRows j width rows first code bold italic k x y l =
+unfoldable pub strokedRows : ℕ → ℕ → ℕ → ℕ → ℕ → ℕ → Bool → Bool → ℕ → ℕ → ℕ → List ℕ → List ℕ
+strokedRows j width rows first mode code bold italic k x y l =
     cond (admitted (length l) width rows first x y)
-    (partAfter (glyphRows (tableOf bold) code) (rowOffsets italic) (colorBytes k) x y width rows first j l)
+    (partAfter (glyphRows (tableOf bold) mode code) (rowOffsets italic) (colorBytes k) x y width rows first j l)
     l
 
 pub record StrokedRows
-    (j width rows first code : ℕ)
+    (j width rows first mode code : ℕ)
     (bold italic : Bool)
     (k x y : ℕ)
     (before after : List ℕ)
     (answer : Bool) : Type 0 where
   pub answers : answer ≡ admitted (length before) width rows first x y
-  pub leaves : after ≡ strokedRows j width rows first code bold italic k x y before
+  pub leaves : after ≡ strokedRows j width rows first mode code bold italic k x y before

@@ -4,6 +4,7 @@ ghost use mathlib.Core.Path.{_≡_};
 ghost use Rattle.font.specs.Font.{tableOf, glyphRows};
 ghost use Rattle.font_c.specs.Exported.{near, admitted, Stroked, StrokedRows};
 use font::BitmapFont;
+use font::GlyphKey;
 use font::Pen;
 use font::Rows;
 use font::Spot;
@@ -21,12 +22,12 @@ fn table(bold: bool) -> [u8; 4096]
     BitmapFont::default_regular().table()
 }
 
-// Writes the sixteen rows of a code point's glyph.
+// Writes the sixteen rows that are drawn for a code point in a glyph mode.
 #[no_mangle]
-pub extern "C" fn font_glyph_rows(code: u32, bold: bool, rows: &mut [u8; 16])
-    ensures { λ _. ⌜ now (rows .exit) ≡ glyphRows (tableOf bold) code ⌝ }
+pub extern "C" fn font_glyph_rows(mode: u32, code: u32, bold: bool, rows: &mut [u8; 16])
+    ensures { λ _. ⌜ now (rows .exit) ≡ glyphRows (tableOf bold) mode code ⌝ }
 {
-    *rows = font::glyph_rows(&table(bold), code);
+    *rows = font::glyph_rows(&table(bold), GlyphKey { mode, code });
 }
 
 fn is_near(x: usize) -> bool
@@ -70,6 +71,7 @@ pub extern "C" fn font_stroke_rows(
     width: u32,
     rows: u32,
     first: u32,
+    mode: u32,
     code: u32,
     bold: bool,
     italic: bool,
@@ -78,7 +80,7 @@ pub extern "C" fn font_stroke_rows(
     y: u32,
     count: u32,
 ) -> bool
-    ensures { λ r. ⌜ StrokedRows count width rows first code bold italic color x y (now (part .entry)) (now (part .exit)) r ⌝ }
+    ensures { λ r. ⌜ StrokedRows count width rows first mode code bold italic color x y (now (part .entry)) (now (part .exit)) r ⌝ }
 {
     let lent = Rows {
         width: width as usize,
@@ -94,7 +96,7 @@ pub extern "C" fn font_stroke_rows(
     }
     let pen = Pen::new(font::color_bytes(color), bold, italic);
     let offsets = pen.row_offsets();
-    let glyph = font::glyph_rows(&table(pen.bold), code);
+    let glyph = font::glyph_rows(&table(pen.bold), GlyphKey { mode, code });
     let bytes = pen.color;
     font::draw_lowest_rows(part, lent, &glyph, &offsets, at, bytes, count);
     true
@@ -107,6 +109,7 @@ pub extern "C" fn font_stroke(
     width: u32,
     rows: u32,
     first: u32,
+    mode: u32,
     code: u32,
     bold: bool,
     italic: bool,
@@ -114,7 +117,7 @@ pub extern "C" fn font_stroke(
     x: u32,
     y: u32,
 ) -> bool
-    ensures { λ r. ⌜ Stroked width rows first code bold italic color x y (now (part .entry)) (now (part .exit)) r ⌝ }
+    ensures { λ r. ⌜ Stroked width rows first mode code bold italic color x y (now (part .entry)) (now (part .exit)) r ⌝ }
 {
     let all = BitmapFont::CELL_H;
     font_stroke_rows(
@@ -122,6 +125,7 @@ pub extern "C" fn font_stroke(
         width,
         rows,
         first,
+        mode,
         code,
         bold,
         italic,

@@ -1,9 +1,9 @@
 // Replays a sample of calls of Draw, and of jobs: an Open and the Works after it. Each entry has, high
 // byte first: width and height, two bytes each; the default color and the outline's, red, green, blue,
-// alpha; line height, bottom margin, outline and alignment, four bytes each; then two bytes each: the
-// stripe height; 0 for a Draw, or 1 more than the job has Works; how many bytes the picture's buffer
-// has; and how many bytes follow. Those are the Works, each its stripe in one byte and its budget in
-// four, and then the tape. Writes a line for each call: how many strokes the caption has, or a Work
+// alpha; line height, bottom margin, outline, alignment and glyph mode, four bytes each; then two bytes
+// each: the stripe height; 0 for a Draw, or 1 more than the job has Works; how many bytes the picture's
+// buffer has; and how many bytes follow. Those are the Works, each its stripe in one byte and its budget
+// in four, and then the tape. Writes a line for each call: how many strokes the caption has, or a Work
 // did, and a digest of the whole buffer, which held 5A throughout before the first; or the refusal. A
 // job whose Open is refused ends with it.
 //
@@ -19,7 +19,7 @@ use libc::STDIN_FILENO;
 use tape::Answer;
 
 // The bytes of an entry before its Works.
-const HEADER: usize = 36;
+const HEADER: usize = 40;
 
 // The bytes of a Work.
 const WORK: usize = 5;
@@ -38,7 +38,7 @@ fn color_at(bytes: &[u8], at: usize) -> [u8; 4]
 }
 
 fn settings(entry: &[u8]) -> Settings
-    requires { ⌜ 36 ≤ length (now entry) ⌝ }
+    requires { ⌜ 40 ≤ length (now entry) ⌝ }
 {
     let own = color_at(entry, 4);
     let around = color_at(entry, 8);
@@ -51,6 +51,7 @@ fn settings(entry: &[u8]) -> Settings
         bottom_margin_px: long_at(entry, 16),
         outline_px: long_at(entry, 20),
         align: long_at(entry, 24),
+        glyph_mode: long_at(entry, 28),
     }
 }
 
@@ -124,10 +125,10 @@ fn open(
 
 // Where the tape of an entry is due: behind its header and its Works.
 fn tape_start(entry: &[u8]) -> usize
-    requires { ⌜ 36 ≤ length (now entry) ⌝ }
-    ensures { λ r. ⌜ 36 ≤ r ⌝ }
+    requires { ⌜ 40 ≤ length (now entry) ⌝ }
+    ensures { λ r. ⌜ 40 ≤ r ⌝ }
 {
-    let calls = report::number_at(entry, 30);
+    let calls = report::number_at(entry, 34);
     if calls == 0 {
         return HEADER;
     }
@@ -136,14 +137,14 @@ fn tape_start(entry: &[u8]) -> usize
 
 // Makes the calls of one entry, whose tape begins at a place. False where the output takes no more.
 fn print_calls(entry: &[u8], start: usize, workspace: &mut [u8], picture: &mut [u8]) -> bool
-    requires { ⌜ (36 ≤ start) × (start ≤ length (now entry)) × (65535 ≤ length (now picture)) ⌝ }
+    requires { ⌜ (40 ≤ start) × (start ≤ length (now entry)) × (65535 ≤ length (now picture)) ⌝ }
 {
     let s = settings(entry);
-    let stripe_height = report::number_at(entry, 28) as u32;
-    let size = report::number_at(entry, 32);
+    let stripe_height = report::number_at(entry, 32) as u32;
+    let size = report::number_at(entry, 36);
     fill(picture, size);
     let tape = &entry[start..entry.len()];
-    if report::number_at(entry, 30) == 0 {
+    if report::number_at(entry, 34) == 0 {
         return draw(s, tape, workspace, &mut picture[0..size]);
     }
     open(

@@ -5,6 +5,7 @@ pub mod Chunks  -- a token in chunks: the first of them, and then those of the r
 pub mod AllShown  -- the law: letters that show occur on the lines once each, in tape order
 pub mod EachLetterOnce  -- the law: the numbers on lines are some of the letters', each once and in order
 pub mod Narrow  -- the law: no line has over L columns
+pub mod Alike  -- the law: captions whose letters are alike to the wrapper have the same lines
 pub mod TableBytes  -- numbers in two bytes, the table of lines, and stores beside them
 pub mod NextToken  -- the definition passes letters a break or a token at a time
 pub mod CursorBounds  -- the bounds of a cursor are kept

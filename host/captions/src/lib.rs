@@ -28,7 +28,7 @@ pub use job::Job;
 pub use lines::{COLUMNS_MAX, Line, wrap};
 pub use record::{RECORD_BYTES, Record, STRIPES_MAX};
 pub use refusal::{Cause, Refusal, Result};
-pub use settings::{Align, LINE_HEIGHT_MAX, SIDE_MAX, Settings};
+pub use settings::{Align, GlyphMode, LINE_HEIGHT_MAX, SIDE_MAX, Settings};
 pub use workspace::{WORKSPACE_BYTES, Workspace};
 
 /// The most bytes of a tape.

@@ -16,6 +16,7 @@ pub struct Settings {
     pub bottom_margin: u32,
     pub outline: u32,
     pub alignment: u32,
+    pub glyph_mode: u32,
 }
 
 /// The bytes that a call is lent.

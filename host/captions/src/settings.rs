@@ -19,6 +19,18 @@ pub enum Align {
     End = 4,
 }
 
+/// How letters are drawn that the font, which ends at U+00FF, has no glyph for.
+#[derive(Clone, Copy, Debug, Default, PartialEq, Eq)]
+#[repr(u32)]
+pub enum GlyphMode {
+    /// All as boxes.
+    #[default]
+    Kept = 0,
+    /// Curly quotes and dashes, U+2018, U+2019, U+201C, U+201D, U+2013 and U+2014, as `'`, `"` and
+    /// `-`; the others as boxes. Lines stay as they are.
+    Replaced = 1,
+}
+
 /// Sizes are in pixels, colors are red, green, blue and alpha.
 #[derive(Clone, Copy, Debug, PartialEq, Eq)]
 pub struct Settings {
@@ -36,6 +48,7 @@ pub struct Settings {
     /// Any number; over 2 it counts as 2.
     pub outline_px: u32,
     pub align: Align,
+    pub glyph_mode: GlyphMode,
 }
 
 impl Settings {
@@ -50,6 +63,7 @@ impl Settings {
             bottom_margin_px: 24,
             outline_px: 1,
             align: Align::Center,
+            glyph_mode: GlyphMode::Kept,
         }
     }
 
@@ -77,6 +91,7 @@ impl Settings {
             bottom_margin: self.bottom_margin_px,
             outline: self.outline_px,
             alignment: self.align as u32,
+            glyph_mode: self.glyph_mode as u32,
         }
     }
 }

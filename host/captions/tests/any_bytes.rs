@@ -2,7 +2,7 @@
 
 mod common;
 
-use captions::{Align, Job, Result, Settings, Workspace, draw, wrap};
+use captions::{Align, GlyphMode, Job, Result, Settings, Workspace, draw, wrap};
 use common::{Random, painted};
 
 const CASES: u64 = 4_000;
@@ -32,6 +32,7 @@ fn settings(random: &mut Random) -> Settings {
         bottom_margin_px,
         outline_px,
         align: aligns[random.under(5) as usize],
+        glyph_mode: [GlyphMode::Kept, GlyphMode::Replaced][random.under(2) as usize],
     }
 }
 

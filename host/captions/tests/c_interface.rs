@@ -4,8 +4,8 @@
 
 use captions::raw::{Record, Settings};
 use captions::{
-    Align, COLUMNS_MAX, Cause, LETTERS_MAX, LINE_HEIGHT_MAX, RECORD_BYTES, SIDE_MAX, STRIPES_MAX,
-    TAPE_MAX, WORKSPACE_BYTES,
+    Align, COLUMNS_MAX, Cause, GlyphMode, LETTERS_MAX, LINE_HEIGHT_MAX, RECORD_BYTES, SIDE_MAX,
+    STRIPES_MAX, TAPE_MAX, WORKSPACE_BYTES,
 };
 use std::mem::{offset_of, size_of};
 use std::path::{Path, PathBuf};
@@ -75,7 +75,7 @@ fn written(program: &Path) -> String {
     written.into_owned()
 }
 
-const CALLER: &str = "273 checks passed\n";
+const CALLER: &str = "297 checks passed\n";
 
 #[test]
 fn a_caller_in_c() {
@@ -117,7 +117,7 @@ fn in_c(parameter: &str) -> Vec<String> {
         "u32" => vec![format!("uint32_t {name}")],
         "&[u8]" => slice("const uint8_t"),
         "&mut [u8]" => slice("uint8_t"),
-        "&[u32; 8]" => vec![format!("const captions_settings *{name}")],
+        "&[u32; 9]" => vec![format!("const captions_settings *{name}")],
         "&mut [u32; 65]" => vec![format!("captions_record *{name}")],
         _ => panic!("no type of C for `{of}`"),
     }
@@ -178,13 +178,14 @@ fn settings_have_the_fields_of_the_wrapper_s() {
         ),
         ("uint32_t outline;", offset_of!(Settings, outline)),
         ("uint32_t alignment;", offset_of!(Settings, alignment)),
+        ("uint32_t glyph_mode;", offset_of!(Settings, glyph_mode)),
     ];
     let header = read(HEADER);
     let declared = declared(&header, "typedef struct {", "} captions_settings;");
     assert_eq!(declared, fields.map(|(field, _)| field));
-    let offsets = [0, 4, 8, 12, 16, 20, 24, 28];
+    let offsets = [0, 4, 8, 12, 16, 20, 24, 28, 32];
     assert_eq!(fields.map(|(_, offset)| offset), offsets);
-    assert_eq!(size_of::<Settings>(), 32);
+    assert_eq!(size_of::<Settings>(), 36);
 }
 
 #[test]
@@ -218,11 +219,13 @@ fn usual_settings_are_the_wrapper_s() {
         format!("usual.bottom_margin = {};", usual.bottom_margin_px),
         format!("usual.outline = {};", usual.outline_px),
         "usual.alignment = CAPTIONS_ALIGN_CENTER;".to_string(),
+        "usual.glyph_mode = CAPTIONS_GLYPHS_KEPT;".to_string(),
     ];
     let declared = declared(&header, "uint32_t height)\n{", "return usual;");
     assert_eq!(declared, due);
     assert_eq!([usual.width, usual.height], [7, 9]);
     assert_eq!(usual.align, Align::Center);
+    assert_eq!(usual.glyph_mode, GlyphMode::Kept);
 }
 
 /// A name as C has it: `NotAScalar` is `NOT_A_SCALAR`, and `Letter1` is `LETTER_1`.
@@ -267,7 +270,7 @@ fn the_header_has_the_names_of_the_wrapper() {
 fn the_header_has_the_numbers_of_the_wrapper() {
     let header = read(HEADER);
     let numbers = [
-        ("#define CAPTIONS_VERSION", 1),
+        ("#define CAPTIONS_VERSION", 2),
         ("#define CAPTIONS_TAPE_MAX", TAPE_MAX as u32),
         ("#define CAPTIONS_WORKSPACE_MIN", WORKSPACE_BYTES as u32),
         ("#define CAPTIONS_SIDE_MAX", SIDE_MAX),
@@ -280,6 +283,8 @@ fn the_header_has_the_numbers_of_the_wrapper() {
         ("CAPTIONS_ALIGN_START =", Align::Start as u32),
         ("CAPTIONS_ALIGN_RIGHT =", Align::Right as u32),
         ("CAPTIONS_ALIGN_END =", Align::End as u32),
+        ("CAPTIONS_GLYPHS_KEPT =", GlyphMode::Kept as u32),
+        ("CAPTIONS_GLYPHS_REPLACED =", GlyphMode::Replaced as u32),
     ];
     for (name, number) in numbers {
         let line = header

@@ -170,6 +170,7 @@ static void check_usual_settings(void)
     check(usual.bottom_margin == 24, "usual settings: the bottom margin");
     check(usual.outline == 1, "usual settings: an outline of a pixel");
     check(usual.alignment == CAPTIONS_ALIGN_CENTER, "usual settings: lines at the center");
+    check(usual.glyph_mode == CAPTIONS_GLYPHS_KEPT, "usual settings: no letter replaced");
 }
 
 static void check_draw(void)
@@ -210,6 +211,30 @@ static void check_alignments(void)
     check(center < right, "alignment: right starts right of center");
     check(lit_from(CAPTIONS_ALIGN_START) == left, "alignment: start is as left");
     check(lit_from(CAPTIONS_ALIGN_END) == right, "alignment: end is as right");
+}
+
+/* How many pixels of the default color a letter of two bytes has in a glyph mode. */
+static int pixels_in_mode(uint32_t mode, uint8_t high, uint8_t low)
+{
+    const uint8_t tape[] = {CAPTIONS_LETTER_2, high, low};
+    struct call c = good_call();
+    c.tape = tape;
+    c.tape_len = sizeof tape;
+    c.settings.glyph_mode = mode;
+    check(draw(&c) == 9, "Draw: the glyph mode is accepted");
+    return pixels_of(c.settings.default_color);
+}
+
+static void check_glyph_modes(void)
+{
+    const uint32_t kept = CAPTIONS_GLYPHS_KEPT, replaced = CAPTIONS_GLYPHS_REPLACED;
+    int box = pixels_in_mode(kept, 0x01, 0x00);
+    int quote = pixels_in_mode(kept, 0x00, '\'');
+    check(box != quote, "glyph mode: a box is no quote");
+    check(pixels_in_mode(kept, 0x20, 0x19) == box, "glyph mode 0: a curly quote is a box");
+    check(pixels_in_mode(replaced, 0x20, 0x19) == quote, "glyph mode 1: it is a plain quote");
+    check(pixels_in_mode(replaced, 0x20, 0x15) == box, "glyph mode 1: U+2015 is a box");
+    check(pixels_in_mode(replaced, 0x00, '\'') == quote, "glyph mode 1: a plain quote stays");
 }
 
 /* Works on a stripe until its strokes are done. Returns whether no call was refused. */
@@ -441,6 +466,7 @@ static void check_setting_refusals(void)
     struct call c = good_call();
     check_limit(&c, &c.settings.line_height, CAPTIONS_LINE_HEIGHT_MAX);
     check_limit(&c, &c.settings.alignment, CAPTIONS_ALIGN_END);
+    check_limit(&c, &c.settings.glyph_mode, CAPTIONS_GLYPHS_REPLACED);
     c.settings.height = 0;
     check_limit(&c, &c.settings.width, CAPTIONS_SIDE_MAX);
     c.settings.width = 0;
@@ -501,6 +527,7 @@ int main(void)
     check_usual_settings();
     check_draw();
     check_alignments();
+    check_glyph_modes();
     check_lines_of_colors();
     check_job();
     check_stored();

@@ -2,7 +2,7 @@
 
 mod common;
 
-use captions::{Align, Cause, Line, Refusal, Settings, Workspace, draw, wrap};
+use captions::{Align, Cause, GlyphMode, Line, Refusal, Settings, Workspace, draw, wrap};
 use common::{PAINT, painted, plain, tape};
 
 /// The lines of a tape, each its letters' numbers and its columns.
@@ -154,6 +154,35 @@ fn alignments_place_a_line() {
         [8 + 1, 8 + 1, 60 - 8 - 8 + 1, 60 - 8 - 8 + 1]
     );
     assert_eq!(left(Align::Center), (60 - 8) / 2 + 1);
+}
+
+/// The bytes of a picture of one line of words, in a glyph mode.
+fn in_mode(glyph_mode: GlyphMode, words: &str) -> Vec<u8> {
+    let settings = Settings {
+        glyph_mode,
+        outline_px: 2,
+        ..plain(120, 20)
+    };
+    let mut picture = settings.new_picture();
+    let tape = [b"\x06", &tape(words)[..], b"\x00", &tape(words)].concat();
+    draw(&settings, &tape, &mut Workspace::new(), &mut picture).expect("an admitted cue");
+    picture
+}
+
+#[test]
+fn mode_1_replaces_curly_quotes_and_dashes() {
+    let [kept, replaced] = [GlyphMode::Kept, GlyphMode::Replaced];
+    let curly = "\u{2018}\u{2019}\u{201C}\u{201D}\u{2013}\u{2014}";
+    assert!(in_mode(replaced, curly) == in_mode(kept, "''\"\"--"));
+    assert!(in_mode(kept, curly) == in_mode(kept, &BOX.repeat(6)));
+    // What stands beside them, and what they are drawn as, stays.
+    for others in [
+        "\u{2012}\u{2015}\u{2017}",
+        "\u{201A}\u{201B}\u{201E}",
+        "'\"-A\u{FF}",
+    ] {
+        assert!(in_mode(replaced, others) == in_mode(kept, others));
+    }
 }
 
 #[test]

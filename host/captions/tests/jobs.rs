@@ -2,7 +2,7 @@
 
 mod common;
 
-use captions::{Cause, Job, Refusal, Settings, Workspace, draw};
+use captions::{Cause, GlyphMode, Job, Refusal, Settings, Workspace, draw};
 use common::{PAINT, Random, painted, plain, tape};
 
 const AFTER: usize = 8;
@@ -131,6 +131,53 @@ fn a_job_stopped_anywhere_and_then_finished_is_draw() {
             work_to(&mut job, stripe, total);
         }
         assert_eq!(job.picture(), due);
+    }
+}
+
+/// In mode 1, stroke by stroke, a job leaves what one of the replaced letters leaves in mode 0.
+#[test]
+fn a_job_in_mode_1_is_one_of_replaced_letters() {
+    let kept = cue().0;
+    let replaced = Settings {
+        glyph_mode: GlyphMode::Replaced,
+        ..kept
+    };
+    let (curly, plain) = (tape("\u{201C}a\u{2019}\n\u{2014}b"), tape("\"a'\n-b"));
+    let pictures = &mut [painted(&kept, AFTER), painted(&kept, AFTER)];
+    let [one, other] = pictures;
+    let workspace = &mut Workspace::new();
+    let mut one = Job::open(&replaced, &curly, workspace, one, 9).unwrap();
+    let mut other = Job::open(&kept, &plain, workspace, other, 9).unwrap();
+    assert_eq!(one.total(), other.total());
+    for _ in 0..one.total() {
+        for stripe in 0..one.stripes() {
+            assert_eq!(one.work(workspace, stripe, 1), Ok(1));
+            assert_eq!(other.work(workspace, stripe, 1), Ok(1));
+            assert!(one.picture() == other.picture());
+        }
+    }
+    assert!(one.picture() == drawn(&replaced, &curly));
+    assert!(one.picture() != drawn(&kept, &curly));
+}
+
+/// A record holds no mode: a job that goes on in another is not refused, and draws in that.
+#[test]
+fn a_job_may_go_on_in_another_mode() {
+    let kept = cue().0;
+    let replaced = Settings {
+        glyph_mode: GlyphMode::Replaced,
+        ..kept
+    };
+    let tape = tape("\u{2013}\u{2013}");
+    let workspace = &mut Workspace::new();
+    let mut picture = painted(&kept, AFTER);
+    let mut job = Job::open(&kept, &tape, workspace, &mut picture, u32::MAX).unwrap();
+    assert_eq!(job.work(workspace, 0, 9), Ok(9)); // the first dash, which is a box
+    let record = job.record();
+    let mut job = Job::resume(&replaced, &tape, workspace, &mut picture, &record).unwrap();
+    assert_eq!(job.work(workspace, 0, 9), Ok(9));
+    for settings in [kept, replaced] {
+        assert!(picture != drawn(&settings, &tape));
     }
 }
 

@@ -112,7 +112,7 @@ fn number_8_a_setting() {
 }
 
 #[test]
-fn number_8_a_column_limit_or_an_alignment() {
+fn number_8_a_column_limit_an_alignment_or_a_glyph_mode() {
     let due = Refusal {
         cause: Cause::OutOfRange,
         place: 0,
@@ -130,6 +130,13 @@ fn number_8_a_column_limit_or_an_alignment() {
         ..PLAIN
     };
     assert_eq!(raw_draw(misaligned, &[], 65_536), 8 << 32);
+    for glyph_mode in [2, 256, 1 << 31, u32::MAX] {
+        let other = raw::Settings {
+            glyph_mode, // nor for this
+            ..PLAIN
+        };
+        assert_eq!(raw_draw(other, &[12], 0), 8 << 32);
+    }
 }
 
 #[test]
@@ -174,6 +181,7 @@ const PLAIN: raw::Settings = raw::Settings {
     bottom_margin: 0,
     outline: 0,
     alignment: 1,
+    glyph_mode: 0,
 };
 
 fn raw_draw(settings: raw::Settings, tape: &[u8], room: usize) -> u64 {

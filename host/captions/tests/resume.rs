@@ -339,6 +339,7 @@ fn refused_by_work(tape: &[u8], mut record: Record) -> u32 {
         bottom_margin: 0,
         outline: 1,
         alignment: 1,
+        glyph_mode: 0,
     };
     let buffers = Buffers {
         tape,

@@ -2,6 +2,7 @@
 
 mod args;
 mod count;
+mod curly;
 mod digest;
 mod draw;
 mod fenced;

@@ -42,5 +42,6 @@ fn raw(settings: &Settings) -> raw::Settings {
         bottom_margin: settings.bottom_margin,
         outline: settings.outline,
         alignment: settings.alignment,
+        glyph_mode: settings.glyph_mode,
     }
 }

@@ -5,7 +5,7 @@ Every glyph of both fonts: `regularTable` and `boldTable` of the part Font, work
 from here. The part Glyphs says them by rules; where the two differ, one of them was damaged. Each line has a code
 point, the sixteen rows of its glyph in the regular font, the top row first, and those in the bold font, all
 hexadecimal. Two digits are a row of eight pixels; the highest bit is the leftmost. The last line, 0100, is the box of
-every code point from 0100 on.
+every code point from 0100 on, but for those that glyph mode 1 draws as others (part Modes).
 ";
 
 /// What the table is, which glyphs are blank, and a line for each of the others.

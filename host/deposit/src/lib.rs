@@ -40,7 +40,7 @@ const FOR_PLAYERS: [Chapter; 6] = [
     (
         "The font",
         "font",
-        &["Glyphs", "Font", "Slant", "Blend", "Paint"],
+        &["Glyphs", "Modes", "Font", "Slant", "Blend", "Paint"],
     ),
     (
         "Drawing",
@@ -52,11 +52,12 @@ const FOR_PLAYERS: [Chapter; 6] = [
 ];
 
 /// What stands behind the examples.
-const BEHIND: [Chapter; 13] = [
+const BEHIND: [Chapter; 14] = [
     ("Positions in signed numbers", "compositor", &["Plain"]),
     ("From segments to tapes", "tape", &["Segments"]),
     ("What lines keep", "wrap", &["Shown"]),
     ("A stroke, row by row", "font", &["Upward"]),
+    ("Glyph mode 1 by mode 0", "compositor", &["Replaced"]),
     ("What a call answers and leaves", "tape", &["Call"]),
     ("What a call answers and leaves", "wrap", &["Wrapped"]),
     ("What a call answers and leaves", "compositor", &["Drawn"]),

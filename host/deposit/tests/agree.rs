@@ -130,14 +130,17 @@ fn the_order_of_refusals() {
 }
 
 /// The files that docs/DEFINITIONS.md quotes from, and what it has to quote.
-const SPECS: [&str; 3] = [
+const SPECS: [&str; 4] = [
     "crates/font/specs/Upward.antt",
+    "crates/compositor/specs/Replaced.antt",
     "crates/job/specs/History.antt",
     "crates/captions/specs/HistoryInC.antt",
 ];
-const QUOTED: [&str; 7] = [
+const QUOTED: [&str; 9] = [
     "DrawnUpward",
     "RowsFromTheBottom",
+    "DrawnReplaced",
+    "ReplacedFirst",
     "PartlyDrawn",
     "Demand3",
     "Possible",

@@ -64,7 +64,7 @@ fn room(example: &[&str]) -> usize {
 
 fn settings(words: &str) -> Settings {
     let words: Vec<&str> = words.split(' ').collect();
-    let words: [&str; 8] = words.try_into().expect("there are eight settings");
+    let words: [&str; 9] = words.try_into().expect("there are nine settings");
     let color = |word| u32::from_str_radix(word, 16).expect("a color is hexadecimal");
     Settings {
         width: number(words[0]),
@@ -75,6 +75,7 @@ fn settings(words: &str) -> Settings {
         bottom_margin: number(words[5]),
         outline: number(words[6]),
         alignment: number(words[7]),
+        glyph_mode: number(words[8]),
     }
 }
 

@@ -3,7 +3,7 @@
 use crate::compositor::{self, Compositor};
 use crate::font::BitmapFont;
 use crate::settings::Settings;
-use crate::{Line, Run, Stroke};
+use crate::{Line, Run, Stroke, replaced};
 use oxideav_core::{Segment, SubtitleCue};
 use std::ops::Range;
 
@@ -26,7 +26,7 @@ impl Original {
     }
 
     /// Draws one glyph into a picture of `w` by `h` pixels, upright or slanted as the original's
-    /// compositor slants it.
+    /// compositor slants it; in glyph mode 1 that of the letter replaced.
     pub fn draw_glyph_sheared(&self, stroke: &Stroke, dst: &mut [u8], w: u32, h: u32) {
         let Stroke {
             ch, color, x, y, ..
@@ -37,6 +37,7 @@ impl Original {
         } else {
             0.0
         };
+        let ch = replaced::in_mode(stroke.mode, ch);
         font.draw_glyph_sheared(ch, dst, w, h, x, y, color, shear);
     }
 
@@ -74,6 +75,18 @@ impl Original {
             .collect()
     }
 
+    /// The lines that the original draws of segments with these settings.
+    pub fn lines(&self, settings: &Settings, segments: &[Segment]) -> Vec<Line> {
+        let wrap = |segments: &[Segment]| {
+            let (color, limit) = (settings.default_color, settings.limit());
+            self.wrap(segments, color, limit)
+        };
+        match settings.glyph_mode {
+            1 => wrap(&replaced::all(segments)),
+            _ => wrap(segments),
+        }
+    }
+
     /// How many lines there are: flattening and wrapping alone, for whoever takes the time.
     pub fn count_lines(&self, segments: &[Segment], color: [u8; 4], max_cols: usize) -> usize {
         compositor::count_lines(segments, color, max_cols)
@@ -81,7 +94,9 @@ impl Original {
 
     /// Draws a cue, with no face, into a buffer that begins with the picture.
     pub fn render_into(&self, settings: &Settings, cue: &SubtitleCue, dst: &mut [u8]) {
-        compositor(settings).render_into(cue, dst);
+        fed(settings, cue, |cue| {
+            compositor(settings).render_into(cue, dst)
+        });
     }
 
     /// Clears the picture as `render_into` does and draws the first of the cue's strokes, so many.
@@ -110,7 +125,17 @@ impl Original {
         dst: &mut [u8],
         window: Range<usize>,
     ) -> usize {
-        compositor::draw_strokes(&compositor(settings), cue, dst, window)
+        fed(settings, cue, |cue| {
+            compositor::draw_strokes(&compositor(settings), cue, dst, window)
+        })
+    }
+}
+
+/// Has a cue drawn as the original is fed it: in glyph mode 1 its letters are replaced.
+fn fed<R>(settings: &Settings, cue: &SubtitleCue, draw: impl FnOnce(&SubtitleCue) -> R) -> R {
+    match settings.glyph_mode {
+        1 => draw(&replaced::cue(cue)),
+        _ => draw(cue),
     }
 }
 

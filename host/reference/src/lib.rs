@@ -17,6 +17,7 @@ mod missing;
 #[cfg(not(original))]
 pub use missing::Original;
 
+pub mod replaced;
 pub mod settings;
 
 /// The folder where the build looked for them.
@@ -27,9 +28,10 @@ pub fn original() -> Option<Original> {
     Original::find()
 }
 
-/// A letter drawn once, and where: as the original's font is told.
+/// A letter drawn once, in which glyph mode, and where: the rest is as the original's font is told.
 #[derive(Clone, Copy, Debug)]
 pub struct Stroke {
+    pub mode: u32,
     pub ch: char,
     pub bold: bool,
     pub italic: bool,

@@ -33,6 +33,11 @@ impl Original {
         match *self {}
     }
 
+    /// The lines that are drawn of segments, where the original is at hand.
+    pub fn lines(&self, _settings: &Settings, _segments: &[Segment]) -> Vec<Line> {
+        match *self {}
+    }
+
     /// How many lines there are, where the original is at hand.
     pub fn count_lines(&self, _segments: &[Segment], _color: [u8; 4], _max_cols: usize) -> usize {
         match *self {}

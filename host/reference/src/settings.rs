@@ -1,5 +1,5 @@
-//! Document 01's settings, what it says of them, and where the original finds each. They are plain
-//! numbers, taken neither from the original nor from the proved library.
+//! The settings of documents 01 and 02, what these say of them, and where the original finds each. They
+//! are plain numbers, taken neither from the original nor from the proved library.
 
 use oxideav_core::{Positioning, TextAlign};
 use std::ops::Range;
@@ -10,10 +10,13 @@ pub const SIDE_MAX: u32 = 4096;
 pub const LINE_HEIGHT_MAX: u32 = 1024;
 /// The alignments, 0 center, 1 left, 2 start, 3 right, 4 end.
 pub const ALIGNMENTS: [u32; 5] = [0, 1, 2, 3, 4];
+/// The glyph modes: 1 replaces some letters, 0 none.
+pub const GLYPH_MODES: [u32; 2] = [0, 1];
 /// The columns of a cell.
 const CELL_WIDTH: u32 = 8;
 
-/// The original's compositor is told all but the alignment, which the cue says.
+/// The original's compositor is told all but the alignment, which the cue says, and the glyph mode, for
+/// which the cue's letters are replaced.
 #[derive(Clone, Copy, Debug)]
 pub struct Settings {
     pub width: u32,
@@ -24,6 +27,7 @@ pub struct Settings {
     pub bottom_margin: u32,
     pub outline: u32,
     pub alignment: u32,
+    pub glyph_mode: u32,
 }
 
 impl Settings {

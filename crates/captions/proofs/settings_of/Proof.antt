@@ -33,6 +33,9 @@ array-read-t23 c = search needs
 array-read-t26 : tie.Need-array-read-t26
 array-read-t26 c = search needs
 
+array-read-t29 : tie.Need-array-read-t29
+array-read-t29 c = search needs
+
 returns : tie.Need-returns
 returns c =
     let own = c .before .color-bytes .ensures in
@@ -47,6 +50,7 @@ returns c =
       «bottom_margin_px» = getD words 5 0;
       «outline_px» = getD words 6 0;
       align = getD words 7 0;
+      «glyph_mode» = getD words 8 0;
     }
 
 pub settings-of-spec : {M : Type 1} → statement M
@@ -63,4 +67,5 @@ settings-of-spec =
     array-read-t20
     array-read-t23
     array-read-t26
+    array-read-t29
     returns)

@@ -21,8 +21,14 @@ Inv-loop table code at rows₀ r₀ rows r =
 abbrev μ-loop : tie.MeasureT-loop
 μ-loop table code at rows₀ r₀ rows r = 16 - r
 
+drawn-code-requires : tie.Need-drawn-code-requires Inv-loop μ-loop
+drawn-code-requires c = search needs
+
 returns : tie.Need-returns Inv-loop μ-loop
-returns c = simp (le-ltb _ _ (c .if1 .taken))
+returns c = rw (← c .before .drawn-code .ensures, le-ltb _ _ (c .if1 .taken)) refl
+
+cast-at : tie.Need-cast-at Inv-loop μ-loop
+cast-at c = search needs
 
 mul-at : tie.Need-mul-at Inv-loop μ-loop
 mul-at c = search needs
@@ -48,20 +54,20 @@ loop-less c = search needs
 
 loop-again : tie.Need-loop-again Inv-loop μ-loop
 loop-again c =
-    let a = c .before .before .before .before .args in
+    let start = c .before .before .before .before in
     let l = c .before .before .loop in (
       omega arith,
       simp length-set (l .inv .1),
-      fill-step (rowAt (a .table .now) (a .code)) (l .rows) (l .r) _ (omega arith) (l .inv .2) refl,
+      fill-step (rowAt (start .before .args .table .now) (start .drawn-code .result)) (l .rows) (l .r) _ (omega arith) (l .inv .2) refl,
     )
 
 returns-2 : tie.Need-returns-2 Inv-loop μ-loop
 returns-2 c =
-    let a = c .before .before .before .args in
+    let start = c .before .before .before in
     let l = c .before .loop in
     let e : l .r ≡ 16 = omega arith in
-    simp (lt-ltb _ _ (c .before .before .if1 .left))
-    (fill-end (rowAt (a .table .now) (a .code)) (l .rows) 16 (l .inv .1) (rw e at (l .inv .2)))
+    rw (← start .drawn-code .ensures, lt-ltb _ _ (c .before .before .if1 .left))
+    (fill-end (rowAt (start .before .args .table .now) (start .drawn-code .result)) (l .rows) 16 (l .inv .1) (rw e at (l .inv .2)))
 
 pub glyph-rows-spec : {M : Type 1} → statement M
 glyph-rows-spec =
@@ -69,7 +75,9 @@ glyph-rows-spec =
     (tie.spec
     Inv-loop
     μ-loop
+    drawn-code-requires
     returns
+    cast-at
     mul-at
     loop-holds
     add-rows

@@ -14,7 +14,10 @@ glyph-rows-requires : tie.Need-glyph-rows-requires
 glyph-rows-requires c κs = search needs
 
 returns : tie.Need-returns
-returns c = c .glyph-rows .ensures ∙ ap (λ (t : List ℕ). glyphRows t (c .before .before .before .args .code)) (c .before .before .table .ensures)
+returns c =
+    let after-table = c .before .before in
+    let a = after-table .before .args in
+    c .glyph-rows .ensures ∙ ap (λ (t : List ℕ). glyphRows t (a .mode) (a .code)) (after-table .table .ensures)
 
 pub font-glyph-rows-spec : {M : Type 1} → statement M
 font-glyph-rows-spec = tie.close (tie.spec table-requires glyph-rows-requires returns)

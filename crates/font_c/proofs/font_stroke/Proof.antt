@@ -13,12 +13,12 @@ use borrow.Author.Needs.{needs}
 use Rattle.font_c.proofs.font_stroke.Statement.{statement}
 use Rattle.font_c.proofs.font_stroke.Tie as tie
 
-sixteen : (width rows first code : ℕ) (bold italic : Bool) (k x y : ℕ) (l : List ℕ)
-    → strokedRows 16 width rows first code bold italic k x y l ≡ stroked width rows first code bold italic k x y l
+sixteen : (width rows first mode code : ℕ) (bold italic : Bool) (k x y : ℕ) (l : List ℕ)
+    → strokedRows 16 width rows first mode code bold italic k x y l ≡ stroked width rows first mode code bold italic k x y l
 unfolding strokedRows stroked
-sixteen width rows first code bold italic k x y l =
+sixteen width rows first mode code bold italic k x y l =
     ap (λ (m : List ℕ). cond (admitted (length l) width rows first x y) m l)
-    (all-rows (glyphRows (tableOf bold) code) (rowOffsets italic) (colorBytes k) x y (4 * width) rows first l)
+    (all-rows (glyphRows (tableOf bold) mode code) (rowOffsets italic) (colorBytes k) x y (4 * width) rows first l)
 
 font-stroke-rows-requires : tie.Need-font-stroke-rows-requires
 font-stroke-rows-requires c κs = search needs
@@ -29,7 +29,7 @@ same-length c = search needs
 returns : tie.Need-returns
 returns c =
     let rows = c .before .before .font-stroke-rows .ensures in
-    record { answers = rows .answers; leaves = rows .leaves ∙ sixteen _ _ _ _ _ _ _ _ _ _ }
+    record { answers = rows .answers; leaves = rows .leaves ∙ sixteen _ _ _ _ _ _ _ _ _ _ _ }
 
 pub font-stroke-spec : {M : Type 1} → statement M
 font-stroke-spec = tie.close (tie.spec font-stroke-rows-requires same-length returns)

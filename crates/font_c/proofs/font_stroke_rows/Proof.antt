@@ -69,7 +69,9 @@ returns-2 c =
     let pen = after-new .new .ensures in
     let k = ap (λ (p : Pen). p .color) pen ∙ after-new .before .color-bytes .ensures in
     let glyph =
-    letter .glyph-rows .ensures ∙ ap (λ (t : List ℕ). glyphRows t (a .code)) (after-table .table .ensures) ∙ ap (penGlyph (a .code)) pen in
+    letter .glyph-rows .ensures
+    ∙ ap (λ (t : List ℕ). glyphRows t (a .mode) (a .code)) (after-table .table .ensures)
+    ∙ ap (penGlyph record { mode = a .mode; code = a .code }) pen in
     let offsets = after-row-offsets .row-offsets .ensures ∙ ap penOffsets pen ∙ ap rowOffsets (leans-back (a .italic)) in
     record {
       answers = sym yes;

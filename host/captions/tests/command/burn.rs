@@ -1,10 +1,10 @@
 //! `captions burn`.
 
 use crate::run::run;
-use captions::{Align, Settings, Workspace, draw};
+use captions::{Align, GlyphMode, Settings, Workspace, draw};
 
-/// Two lines, letters of the default color and others.
-const CUE: &[u8] = b"\x02H\x02i\x05\x08\x20\xc0\x40\x02y\x02o\x02u\x00\x02!";
+/// Two lines, letters of the default color and others, and a curly quote.
+const CUE: &[u8] = b"\x02H\x02i\x05\x08\x20\xc0\x40\x02y\x02o\x02u\x00\x02!\x03\x20\x19";
 
 /// The file that is due.
 fn due(settings: &Settings, tape: &[u8]) -> Vec<u8> {
@@ -38,9 +38,10 @@ fn burns_what_draw_draws() {
         bottom_margin_px: 4,
         outline_px: 2,
         align: Align::Right,
+        glyph_mode: GlyphMode::Replaced,
     };
     let words = "--width 61 --height 47 --default-color 01020380 --outline-color FA005A4D \
-        --line-height 17 --bottom-margin 4 --outline 2 --align right";
+        --line-height 17 --bottom-margin 4 --outline 2 --align right --glyph-mode 1";
     let words: Vec<&str> = words.split_whitespace().collect();
     assert!(burnt(&words) == due(&small, CUE));
 }
@@ -117,6 +118,14 @@ fn lines_stand_where_they_are_aligned() {
     ];
     for (value, align) in cases {
         sets("--align", value, |settings| settings.align = align);
+    }
+}
+
+#[test]
+fn glyphs_are_of_the_mode() {
+    let cases = [("0", GlyphMode::Kept), ("1", GlyphMode::Replaced)];
+    for (value, mode) in cases {
+        sets("--glyph-mode", value, |settings| settings.glyph_mode = mode);
     }
 }
 

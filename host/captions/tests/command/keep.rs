@@ -48,7 +48,7 @@ fn keeps_what_the_deposit_has() {
 fn keeps_nothing_of_a_clear_picture() {
     let words = "keep --width 4096 --height 4096 --outline 0";
     let words: Vec<&str> = words.split(' ').collect();
-    let due = "settings 4096 4096 FFFFFFFF 000000FF 20 24 0 0\nstrokes 0\nsum 0\n";
+    let due = "settings 4096 4096 FFFFFFFF 000000FF 20 24 0 0 0\nstrokes 0\nsum 0\n";
     assert_eq!(run(&words, b"").text(), due);
 }
 

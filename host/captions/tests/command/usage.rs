@@ -43,7 +43,7 @@ fn helps_with_each_subcommand() {
 /// An option, and what the two lines of its help say.
 type Said = [&'static str; 3];
 
-const OF_BURN: [Said; 10] = [
+const OF_BURN: [Said; 11] = [
     ["--width", "from 0 to 4096", "640 by default"],
     ["--height", "from 0 to 4096", "360 by default"],
     [
@@ -64,6 +64,7 @@ const OF_BURN: [Said; 10] = [
         "center (or centre), left, start, right or end",
         "center by default",
     ],
+    ["--glyph-mode", "0 or 1", "0 by default"],
     ["--stripes", "from 1 to 4294967295", "64"],
     ["--budget", "from 1 to 4294967295", "all by default"],
 ];
@@ -116,7 +117,7 @@ const WRONG: [Wrong; 6] = [
 ];
 
 /// The help named is that of the subcommand, the first of the words.
-const WRONG_OF_A_SUBCOMMAND: [Wrong; 9] = [
+const WRONG_OF_A_SUBCOMMAND: [Wrong; 10] = [
     ("show cue.tape", "the argument \"cue.tape\" is one too many"),
     ("text --width=3", "text has no option \"--width\""),
     ("show -x", "show has no option \"-x\""),
@@ -133,6 +134,10 @@ const WRONG_OF_A_SUBCOMMAND: [Wrong; 9] = [
     (
         "burn --align Left",
         "--align takes center (or centre), left, start, right or end, not \"Left\"",
+    ),
+    (
+        "burn --glyph-mode 2",
+        "--glyph-mode takes 0 or 1, not \"2\"",
     ),
     ("burn --budget 3", "--budget needs --stripes"),
 ];

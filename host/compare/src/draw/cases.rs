@@ -40,6 +40,7 @@ pub fn translucent(width: u32, height: u32) -> Settings {
         bottom_margin: 0,
         outline: 1,
         alignment: 0,
+        glyph_mode: 0,
     }
 }
 

@@ -1,7 +1,7 @@
-//! What is due of a call: the original's picture, or the refusal that document 01 asks for.
+//! What is due of a call: the original's picture, or the refusal that documents 01 and 02 ask for.
 
 use crate::draw::frame::{Drawn, Frame, Outcome};
-use crate::draw::settings::{ALIGNMENTS, LINE_HEIGHT_MAX, SIDE_MAX, Settings};
+use crate::draw::settings::{ALIGNMENTS, GLYPH_MODES, LINE_HEIGHT_MAX, SIDE_MAX, Settings};
 use crate::refusal::{Refusal, plain};
 use crate::tape::letters::{self, segments};
 use crate::tape::{MOST_BYTES, ROOM, reading};
@@ -20,7 +20,7 @@ pub fn drawn(original: &Original, settings: &Settings, cue: &SubtitleCue, bytes:
 
 /// All strokes of a cue: the original's letters on lines are counted for them.
 pub fn strokes(original: &Original, settings: &Settings, segments: &[Segment]) -> usize {
-    let lines = original.wrap(segments, settings.default_color, settings.limit());
+    let lines = original.lines(settings, segments);
     let pieces = lines.iter().flat_map(|line| &line.pieces);
     let letters: usize = pieces.map(|piece| piece.text.chars().count()).sum();
     letters * settings.strokes()
@@ -52,6 +52,7 @@ pub fn settings_and_lengths(frame: &Frame) -> Result<(), Refusal> {
         || settings.height > SIDE_MAX
         || settings.line_height > LINE_HEIGHT_MAX
         || !ALIGNMENTS.contains(&settings.alignment)
+        || !GLYPH_MODES.contains(&settings.glyph_mode)
     {
         plain(8)
     } else if frame.bytes.len() < settings.area() {

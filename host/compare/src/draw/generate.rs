@@ -1,6 +1,7 @@
 //! Random settings, cues and buffers.
 
-use crate::draw::settings::{ALIGNMENTS, LINE_HEIGHT_MAX, SIDE_MAX, Settings};
+use crate::curly;
+use crate::draw::settings::{ALIGNMENTS, GLYPH_MODES, LINE_HEIGHT_MAX, SIDE_MAX, Settings};
 use crate::random::Random;
 use crate::tape::segments;
 use crate::wrap::cues::{self, Cue};
@@ -28,6 +29,7 @@ pub fn sized(random: &mut Random, width: u32, height: u32) -> Settings {
         bottom_margin: margin(random, height),
         outline: outline(random),
         alignment: random.pick(&ALIGNMENTS),
+        glyph_mode: random.pick(&GLYPH_MODES),
     }
 }
 
@@ -92,10 +94,15 @@ pub fn cue(random: &mut Random) -> Cue {
     }
 }
 
-/// A cue of so many letters, of which most have a glyph of their own.
+/// A cue of so many letters, of which most have a glyph of their own; in a third many are curly.
 pub fn legible(random: &mut Random, letters: RangeInclusive<i64>) -> Cue {
     let count = random.within(letters);
-    let text: Vec<char> = (0..count).map(|_| letter(random)).collect();
+    let curly = random.one_in(3);
+    let mut next = || match curly && random.one_in(2) {
+        true => curly::letter(random),
+        false => letter(random),
+    };
+    let text: Vec<char> = (0..count).map(|_| next()).collect();
     cues::of_text(random, &text)
 }
 

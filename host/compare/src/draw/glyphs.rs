@@ -1,7 +1,9 @@
-//! Every glyph in every style, with every outline.
+//! Every glyph in every style, with every outline; and what glyph mode 1 draws.
 
 use crate::count::Count;
+use crate::curly::{BESIDE, PLAIN, REPLACED};
 use crate::draw::cases::{self, COLORS, marked, translucent};
+use crate::draw::settings::Settings;
 use crate::font::strokes::STYLES;
 use crate::tape::segments::each_letter;
 use crate::wrap::cues;
@@ -21,27 +23,42 @@ const PAST: [char; 8] = [
 
 const OUTLINES: [u32; 6] = [0, 1, 2, 3, 9, u32::MAX];
 
-/// Each between two letters, which keep a space, or a control, from being dropped.
-pub fn compare(original: &Original) -> Count {
-    let mut count = Count::new("glyphs of Draw");
-    for ch in ('\0'..='\u{100}').chain(PAST) {
-        for (bold, italic) in STYLES {
-            let segments = each_letter(&format!("H{ch}g"));
-            let cue = cues::shortest(marked(bold, italic, segments));
-            let settings = OUTLINES.into_iter().flat_map(|outline| {
-                COLORS.map(|[default_color, outline_color]| {
-                    let mut settings = translucent(34, 42);
-                    settings.default_color = default_color;
-                    settings.outline_color = outline_color;
-                    settings.outline = outline;
-                    // Said, so that each is drawn once.
-                    settings.alignment = 3;
-                    settings.bottom_margin = 4;
-                    settings
-                })
-            });
-            cases::check(original, &mut count, cue, settings);
-        }
+pub fn compare(original: &Original) -> [Count; 2] {
+    let mut counts = [
+        "glyphs of Draw in glyph mode 0",
+        "glyphs of Draw in glyph mode 1",
+    ]
+    .map(Count::new);
+    let curly = || REPLACED.into_iter().chain(BESIDE).chain(PLAIN);
+    for ch in ('\0'..='\u{100}').chain(PAST).chain(curly()) {
+        each_style(original, &mut counts[0], ch, 0);
     }
-    count
+    for ch in ['A', ' ', '\u{1}', '\u{ff}', '\u{100}']
+        .into_iter()
+        .chain(curly())
+    {
+        each_style(original, &mut counts[1], ch, 1);
+    }
+    counts
+}
+
+/// Between two letters, which keep a space, or a control, from being dropped.
+fn each_style(original: &Original, count: &mut Count, ch: char, glyph_mode: u32) {
+    for (bold, italic) in STYLES {
+        let segments = each_letter(&format!("H{ch}g"));
+        let cue = cues::shortest(marked(bold, italic, segments));
+        let settings = OUTLINES.into_iter().flat_map(|outline| {
+            COLORS.map(|[default_color, outline_color]| Settings {
+                default_color,
+                outline_color,
+                outline,
+                // Said, so that each is drawn once.
+                alignment: 3,
+                bottom_margin: 4,
+                glyph_mode,
+                ..translucent(34, 42)
+            })
+        });
+        cases::check(original, count, cue, settings);
+    }
 }

@@ -6,13 +6,15 @@ use std::collections::BTreeMap;
 
 struct Met<'a> {
     settings: &'a Settings,
+    /// How many of its letters glyph mode 1 replaces.
+    curly: usize,
     /// Its picture's pixels.
     pixels: &'a [[u8; 4]],
 }
 
 type Kind = (&'static str, fn(&Met) -> bool);
 
-const KINDS: [Kind; 12] = [
+const KINDS: [Kind; 13] = [
     ("something to see", |met| met.pixels.iter().any(lit)),
     ("first column lit", |met| met.column(0)),
     ("last column lit", |met| {
@@ -30,6 +32,9 @@ const KINDS: [Kind; 12] = [
     }),
     ("translucent outline", |met| {
         met.settings.outline > 0 && translucent(met.settings.outline_color)
+    }),
+    ("letters replaced", |met| {
+        met.settings.glyph_mode == 1 && met.curly > 0
     }),
     ("side over 1000", |met| {
         met.settings.width.max(met.settings.height) > 1000
@@ -64,20 +69,27 @@ pub struct Kinds {
     frames: u64,
     strokes: usize,
     alignments: [u64; 5],
+    modes: [u64; 2],
     met: [u64; KINDS.len()],
 }
 
 impl Kinds {
-    /// Counts a frame whose settings are within their ranges.
-    pub fn add(&mut self, settings: &Settings, drawn: &Drawn) {
+    /// Counts a frame whose settings are within their ranges, with so many letters that glyph mode 1
+    /// replaces.
+    pub fn add(&mut self, settings: &Settings, curly: usize, drawn: &Drawn) {
         self.frames += 1;
         self.strokes += drawn.strokes;
         self.alignments[settings.alignment as usize] += 1;
+        self.modes[settings.glyph_mode as usize] += 1;
         let (pixels, _) = drawn.bytes[..settings.area()].as_chunks();
         if pixels.is_empty() {
             return;
         }
-        let met = Met { settings, pixels };
+        let met = Met {
+            settings,
+            curly,
+            pixels,
+        };
         for (count, (_, kind)) in self.met.iter_mut().zip(KINDS) {
             *count += u64::from(kind(&met));
         }
@@ -86,8 +98,8 @@ impl Kinds {
     pub fn show(&self) {
         let met: BTreeMap<_, _> = KINDS.iter().map(|(name, _)| name).zip(self.met).collect();
         println!(
-            "random frames: {} of {} strokes, by alignment {:?}, among them {met:?}",
-            self.frames, self.strokes, self.alignments
+            "random frames: {} of {} strokes, by alignment {:?}, by glyph mode {:?}, among them {met:?}",
+            self.frames, self.strokes, self.alignments, self.modes
         );
     }
 }

@@ -20,22 +20,23 @@ use crate::wrap;
 use frame::Frame;
 use kinds::Kinds;
 use oxideav_core::SubtitleCue;
-use reference::Original;
 pub use reference::settings;
+use reference::{Original, replaced};
 
 /// Sets the frames apart from the cues of the same seed.
 const FRAMES: u64 = 0xf4a3e5;
 
 /// All comparisons of Draw, with this many random frames, and as many of damaged tapes.
 pub fn compare(original: &Original, seed: u64, frames: u64) -> Vec<Count> {
-    vec![
-        glyphs::compare(original),
+    let mut counts = Vec::from(glyphs::compare(original));
+    counts.extend([
         places::compare(original),
         limits::compare(original),
         refusals::each(original),
         random(original, seed, frames),
         refusals::random(original, seed, frames),
-    ]
+    ]);
+    counts
 }
 
 /// Random cues with random settings over random bytes.
@@ -68,6 +69,6 @@ fn random_frame(original: &Original, random: &mut Random, kinds: &mut Kinds) -> 
         positioning: settings.positioning(random.one_in(2)),
     };
     let due = due::drawn(original, &settings, &cue, &frame.bytes);
-    kinds.add(&settings, &due);
+    kinds.add(&settings, replaced::count(&cue.segments), &due);
     frame.hold(&Ok(due))
 }

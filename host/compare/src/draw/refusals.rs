@@ -20,7 +20,7 @@ const ROOMS: [usize; 4] = [ROOM, ROOM + 1, ROOM - 1, 0];
 /// A setting put out of its range.
 pub type Break = fn(&mut Settings);
 
-pub const BREAKS: [Break; 14] = [
+pub const BREAKS: [Break; 18] = [
     |settings| settings.width = SIDE_MAX + 1,
     |settings| settings.width = 1 << 16,
     |settings| settings.width = 1 << 31,
@@ -35,6 +35,10 @@ pub const BREAKS: [Break; 14] = [
     |settings| settings.alignment = 256,
     |settings| settings.alignment = 1 << 31,
     |settings| settings.alignment = u32::MAX,
+    |settings| settings.glyph_mode = 2,
+    |settings| settings.glyph_mode = 256,
+    |settings| settings.glyph_mode = 1 << 31,
+    |settings| settings.glyph_mode = u32::MAX,
 ];
 
 /// Every setting out of range, and none, with every buffer and every room, and with each tape that

@@ -17,8 +17,8 @@ use std::ops::RangeInclusive;
 /// Twenty are refused.
 const SAMPLE: Sample = Sample {
     seed: 22,
-    entries: 400,
-    apart: 20,
+    entries: 360,
+    apart: 18,
 };
 /// How long a tape may be, where its letters are not too many.
 const SHORT: usize = 400;
@@ -41,8 +41,8 @@ pub fn entries() -> Vec<u8> {
     bytes
 }
 
-/// Puts an entry behind others: the settings in document 01's order, of which width and height have
-/// two bytes and the others four; two bytes each of the stripe height, of the job's calls, which a
+/// Puts an entry behind others: the settings in their order, of which width and height have two bytes
+/// and the others four; two bytes each of the stripe height, of the job's calls, which a
 /// Draw has none of, of the picture's buffer's length and of how many bytes follow, high byte first;
 /// and the Works and the tape.
 pub fn put(bytes: &mut Vec<u8>, frame: &Frame, stripe_height: u16, calls: u16, works: &[u8]) {
@@ -57,6 +57,7 @@ pub fn put(bytes: &mut Vec<u8>, frame: &Frame, stripe_height: u16, calls: u16, w
         settings.bottom_margin,
         settings.outline,
         settings.alignment,
+        settings.glyph_mode,
     ] {
         bytes.extend(number.to_be_bytes());
     }
@@ -125,6 +126,7 @@ pub fn caption(
     let mut frame = small(random, tape);
     frame.settings.alignment = (number % 5) as u32;
     frame.settings.outline = OUTLINES[(number / 7 % 4) as usize];
+    frame.settings.glyph_mode = (number / 3 % 2) as u32;
     if !random.one_in(6) {
         frame.settings.bottom_margin = random.within_u32(0..=12);
     }
@@ -179,7 +181,7 @@ fn spoil(frame: &mut Frame, index: u64) {
         13 => settings.height = SIDE_MAX + 1,
         14 => settings.line_height = LINE_HEIGHT_MAX + 1,
         15 => settings.alignment = 5,
-        16 => settings.alignment = u32::MAX,
+        16 => settings.glyph_mode = 2,
         17 => (settings.width, settings.height) = (u16::MAX.into(), u16::MAX.into()),
         18 => frame.bytes.truncate(settings.area().saturating_sub(1)),
         19 => frame.bytes.clear(),

@@ -100,6 +100,7 @@ impl Scene {
             bottom_margin: 24,
             outline: self.outline,
             alignment: 0,
+            glyph_mode: 0,
         }
     }
 }

@@ -1,8 +1,10 @@
 //! Random pictures and strokes.
 
+use crate::curly;
 use crate::font::picture::{Picture, Stroke, fence};
 use crate::font::proved::{ORIGIN, PLACE_END, PLACE_MIN, SIDE_MAX};
 use crate::random::Random;
+use reference::settings::GLYPH_MODES;
 use std::ops::RangeInclusive;
 
 /// The columns where a stroke may start and the rows where its base line may stand, counted from
@@ -81,6 +83,7 @@ fn near(random: &mut Random, place: i32) -> i32 {
 pub fn stroke(random: &mut Random, width: u32, height: u32) -> Stroke {
     let (width, height) = (i64::from(width), i64::from(height));
     Stroke {
+        mode: random.pick(&GLYPH_MODES),
         ch: letter(random),
         bold: random.one_in(2),
         italic: random.one_in(2),
@@ -106,8 +109,11 @@ fn place(random: &mut Random, seen: RangeInclusive<i64>) -> i32 {
     place as i32
 }
 
-/// Mostly a letter of the table that is not blank.
+/// Mostly a letter of the table that is not blank, often one that glyph mode 1 replaces.
 fn letter(random: &mut Random) -> char {
+    if random.one_in(6) {
+        return curly::letter(random);
+    }
     let codes = match random.within(0..=11) {
         0 => 0..=0x10ffff,
         1..=3 => 0..=0x100,

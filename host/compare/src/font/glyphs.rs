@@ -1,8 +1,9 @@
 //! Compares the rows of glyphs.
 
 use crate::count::Count;
+use crate::curly::{BESIDE, PLAIN, REPLACED};
 use crate::font::proved;
-use reference::Original;
+use reference::{Original, replaced};
 
 /// Code points past the table: each byte length of UTF-8, letters whose low bits are an `A`, both
 /// sides of the surrogates and the last ones; then codes that are no letter.
@@ -35,31 +36,47 @@ const PAST: [u32; 26] = [
     0xffff_ffff,
 ];
 
-/// Every row of both tables, the rows of the missing glyph, and the code points past the table;
-/// and for every glyph asked for, that nothing but its sixteen rows was written.
+/// A glyph that is asked for.
+#[derive(Clone, Copy)]
+struct Asked {
+    mode: u32,
+    code: u32,
+    bold: bool,
+}
+
+/// The glyph modes, and numbers that are none: a glyph is then mode 0's, and no call draws it.
+const MODES: [u32; 5] = [0, 1, 2, 257, u32::MAX];
+
+/// Every row of both tables, the rows of the missing glyph, and the code points past the table, in
+/// every mode; and for every glyph asked for, that nothing but its sixteen rows was written.
 pub fn compare(original: &Original) -> Vec<Count> {
     let mut tables = Count::new("rows of both tables");
     let mut missing = Count::new("rows of the missing glyph");
     let mut past = Count::new("rows of code points past the table");
+    let mut curly = Count::new("rows of curly quotes and dashes, and of code points beside them");
     let mut fences = Count::new("bytes around the rows");
-    for bold in [false, true] {
-        for code in 0..256 {
-            compare_glyph(original, code, bold, &mut tables, &mut fences);
-        }
+    let chars = || REPLACED.into_iter().chain(BESIDE).chain(PLAIN);
+    for (mode, bold) in MODES
+        .into_iter()
+        .flat_map(|mode| [(mode, false), (mode, true)])
+    {
+        let mut each = |code: u32, rows: &mut Count| {
+            compare_glyph(original, Asked { mode, code, bold }, rows, &mut fences);
+        };
+        (0..256).for_each(|code| each(code, &mut tables));
+        each(256, &mut missing);
+        PAST.into_iter().for_each(|code| each(code, &mut past));
+        chars().for_each(|ch| each(ch.into(), &mut curly));
     }
-    compare_glyph(original, 256, false, &mut missing, &mut fences);
-    for bold in [false, true] {
-        for code in PAST {
-            compare_glyph(original, code, bold, &mut past, &mut fences);
-        }
-    }
-    vec![tables, missing, past, fences]
+    vec![tables, missing, past, curly, fences]
 }
 
-fn compare_glyph(original: &Original, code: u32, bold: bool, rows: &mut Count, fences: &mut Count) {
-    let name = format!("U+{code:04X} {}", if bold { "bold" } else { "regular" });
-    let expected = expected_rows(original, code, bold);
-    let (found, kept) = proved_rows(code, bold, expected);
+fn compare_glyph(original: &Original, asked: Asked, rows: &mut Count, fences: &mut Count) {
+    let Asked { mode, code, bold } = asked;
+    let font = if bold { "bold" } else { "regular" };
+    let name = format!("U+{code:04X} {font}, mode {mode}");
+    let expected = expected_rows(original, asked);
+    let (found, kept) = proved_rows(asked, expected);
     for (row, (expected, found)) in expected.iter().zip(found).enumerate() {
         rows.check(if *expected == found {
             Ok(())
@@ -76,20 +93,20 @@ fn compare_glyph(original: &Original, code: u32, bold: bool, rows: &mut Count, f
     });
 }
 
-/// What the original draws. It has no glyph for a code that is no `char`; the proved font, which
-/// takes any number, shows the missing glyph there as for every code point past the table.
-fn expected_rows(original: &Original, code: u32, bold: bool) -> [u8; 16] {
-    original
-        .glyph_rows(bold, code)
-        .or_else(|| original.glyph_rows(bold, 256))
-        .unwrap_or_default()
+/// What the original draws, in mode 1 of the letter replaced. It has no glyph for a code that is no
+/// `char`; the proved font, which takes any number, shows the missing glyph there as for every code
+/// point past the table.
+fn expected_rows(original: &Original, asked: Asked) -> [u8; 16] {
+    let drawn = char::from_u32(asked.code).map(|ch| replaced::in_mode(asked.mode, ch));
+    let code = drawn.map_or(256, u32::from);
+    original.glyph_rows(asked.bold, code).unwrap_or_default()
 }
 
 /// The proved font's rows, and whether the bytes around them were kept.
-fn proved_rows(code: u32, bold: bool, expected: [u8; 16]) -> ([u8; 16], bool) {
+fn proved_rows(asked: Asked, expected: [u8; 16]) -> ([u8; 16], bool) {
     const FENCE: [u8; 16] = [0xa5; 16];
     // The rows start as other than expected, so that one left unwritten is seen.
     let mut rows = [FENCE, expected.map(|row| !row), FENCE];
-    proved::glyph_rows(code, bold, &mut rows[1]);
+    proved::glyph_rows(asked.mode, asked.code, asked.bold, &mut rows[1]);
     (rows[1], rows[0] == FENCE && rows[2] == FENCE)
 }

@@ -25,6 +25,7 @@ pub struct Picture {
 /// The stroke as the proved font takes it.
 pub fn as_proved(stroke: &Stroke) -> proved::Stroke {
     proved::Stroke {
+        mode: stroke.mode,
         code: u32::from(stroke.ch),
         bold: stroke.bold,
         italic: stroke.italic,

@@ -18,9 +18,10 @@ pub struct Part {
     pub first: u32,
 }
 
-/// One glyph to draw. The colour is 0xRRGGBBAA, `y` is the base line.
+/// One glyph to draw, in a glyph mode. The colour is 0xRRGGBBAA, `y` is the base line.
 #[derive(Clone, Copy, Debug)]
 pub struct Stroke {
+    pub mode: u32,
     pub code: u32,
     pub bold: bool,
     pub italic: bool,
@@ -30,7 +31,7 @@ pub struct Stroke {
 }
 
 unsafe extern "C" {
-    fn font_glyph_rows(code: u32, bold: bool, rows: *mut u8);
+    fn font_glyph_rows(mode: u32, code: u32, bold: bool, rows: *mut u8);
 
     fn font_stroke(
         part: *mut u8,
@@ -38,6 +39,7 @@ unsafe extern "C" {
         width: u32,
         rows: u32,
         first: u32,
+        mode: u32,
         code: u32,
         bold: bool,
         italic: bool,
@@ -52,6 +54,7 @@ unsafe extern "C" {
         width: u32,
         rows: u32,
         first: u32,
+        mode: u32,
         code: u32,
         bold: bool,
         italic: bool,
@@ -62,10 +65,10 @@ unsafe extern "C" {
     ) -> bool;
 }
 
-/// Writes the sixteen rows of a code point's glyph, bit 7 leftmost.
-pub fn glyph_rows(code: u32, bold: bool, rows: &mut [u8; 16]) {
+/// Writes the sixteen rows that are drawn for a code point in a glyph mode, bit 7 leftmost.
+pub fn glyph_rows(mode: u32, code: u32, bold: bool, rows: &mut [u8; 16]) {
     // Safety: the sixteen bytes are lent for the call alone.
-    unsafe { font_glyph_rows(code, bold, rows.as_mut_ptr()) }
+    unsafe { font_glyph_rows(mode, code, bold, rows.as_mut_ptr()) }
 }
 
 /// Blends a glyph into a part of a picture, or answers false and leaves the part as it was.
@@ -79,6 +82,7 @@ pub fn stroke(bytes: &mut [u8], part: Part, stroke: Stroke) -> bool {
             part.width,
             part.rows,
             part.first,
+            stroke.mode,
             stroke.code,
             stroke.bold,
             stroke.italic,
@@ -99,6 +103,7 @@ pub fn stroke_rows(bytes: &mut [u8], part: Part, stroke: Stroke, count: u32) -> 
             part.width,
             part.rows,
             part.first,
+            stroke.mode,
             stroke.code,
             stroke.bold,
             stroke.italic,

@@ -50,6 +50,7 @@ fn dot(bold: bool, italic: bool) -> Call {
         },
         len: BYTES,
         stroke: Stroke {
+            mode: 0,
             code: 256,
             bold,
             italic,

@@ -1,6 +1,7 @@
 //! Compares strokes of which some rows are drawn, from the lowest up.
 
 use crate::count::Count;
+use crate::curly::REPLACED;
 use crate::font::picture::{Picture, Stroke};
 use crate::font::proved;
 use crate::font::strokes::{HALF, STYLES, filled};
@@ -18,14 +19,16 @@ const CUTS: [&[u32]; 2] = [&[0, HEIGHT], &[0, 9, HEIGHT]];
 /// The rows of a glyph from its base line down.
 const BELOW: i64 = 4;
 
-/// Every glyph in every style, inside a picture and clipped at each side and corner: after each number
+/// Every glyph in every style, and those that glyph mode 1 replaces, inside a picture and clipped at each side and corner: after each number
 /// of its rows, and after more than it has.
 pub fn compare(original: &Original) -> Count {
     let mut count = Count::new("strokes after some of their rows");
-    for ch in '\0'..='\u{100}' {
+    let curly = REPLACED.map(|ch| (1, ch));
+    for (mode, ch) in ('\0'..='\u{100}').map(|ch| (0, ch)).chain(curly) {
         for (bold, italic) in STYLES {
             for (x, y) in COLUMNS.iter().flat_map(|x| BASE_LINES.map(|y| (*x, y))) {
                 let stroke = Stroke {
+                    mode,
                     ch,
                     bold,
                     italic,

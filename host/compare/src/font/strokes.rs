@@ -20,6 +20,7 @@ pub fn every_glyph(original: &Original) -> Count {
         for (bold, italic) in STYLES {
             for color in [OPAQUE, HALF] {
                 let stroke = Stroke {
+                    mode: 0,
                     ch,
                     bold,
                     italic,
@@ -55,6 +56,7 @@ pub fn every_alpha(original: &Original) -> Count {
 /// of it.
 fn side_by_side(color: [u8; 4]) -> Picture {
     let strokes = (0..43).map(|number| Stroke {
+        mode: 0,
         ch: '_',
         bold: false,
         italic: false,
@@ -161,6 +163,7 @@ fn corners(width: u32, height: u32) -> Vec<Stroke> {
 
 fn solid(ch: char, x: i32, y: i32) -> Stroke {
     Stroke {
+        mode: 0,
         ch,
         bold: true,
         italic: true,

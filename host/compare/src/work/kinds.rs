@@ -11,6 +11,8 @@ use std::collections::BTreeMap;
 struct Met<'a> {
     settings: &'a Settings,
     total: usize,
+    /// How many of its letters glyph mode 1 replaces.
+    curly: usize,
     stripe: usize,
     budget: usize,
     call: &'a Call,
@@ -19,7 +21,7 @@ struct Met<'a> {
 
 type Kind = (&'static str, fn(&Met) -> bool);
 
-const KINDS: [Kind; 9] = [
+const KINDS: [Kind; 11] = [
     ("something to see", |met| met.seen()),
     ("budget 0", |met| met.budget == 0),
     ("budget 1", |met| met.budget == 1),
@@ -33,6 +35,10 @@ const KINDS: [Kind; 9] = [
     }),
     ("begun and stopped inside letters, and seen", |met| {
         met.inside(met.from()) && met.inside(met.to()) && met.seen()
+    }),
+    ("glyph mode 1", |met| met.settings.glyph_mode == 1),
+    ("letters replaced, and seen", |met| {
+        met.settings.glyph_mode == 1 && met.curly > 0 && met.seen()
     }),
     ("counter and budget past 32 bits", |met| {
         met.from() + met.budget > u32::MAX as usize
@@ -109,6 +115,7 @@ impl Kinds {
         let met = Met {
             settings: &theirs.settings,
             total: theirs.total,
+            curly: theirs.curly(),
             stripe: stripe as usize,
             budget: budget as usize,
             call,

@@ -56,7 +56,7 @@ fn bases() -> Vec<Base> {
     }
     let mut bases = Vec::new();
     for (tape, fault) in tapes {
-        for broken in [None, Some(BREAKS[4]), Some(BREAKS[8]), Some(BREAKS[10])] {
+        for broken in [None, Some(BREAKS[4]), Some(BREAKS[10]), Some(BREAKS[14])] {
             for (short, room) in [(false, ROOM), (false, ROOM - 1), (true, ROOM), (true, 0)] {
                 bases.push(Base {
                     tape: tape.clone(),

@@ -4,7 +4,7 @@
 use crate::count::Count;
 use crate::draw::cases::{marked, translucent};
 use crate::draw::limits::{narrow, tall, wide};
-use crate::draw::settings::Settings;
+use crate::draw::settings::{GLYPH_MODES, Settings};
 use crate::font::strokes::STYLES;
 use crate::tape::segments::each_letter;
 use crate::work::job::Job;
@@ -14,8 +14,9 @@ use crate::wrap::limits;
 use oxideav_core::Segment;
 use reference::Original;
 
-/// Of one line, whose outline reaches the last row, and of three with a blank one.
-const TEXTS: [&str; 2] = ["g\u{100}", "B\n\nj"];
+/// Of one line, whose outline reaches the last row, and of three with a blank one; and of letters that
+/// glyph mode 1 replaces.
+const TEXTS: [&str; 3] = ["g\u{100}", "B\n\nj", "\u{201c}\u{2014}"];
 const OUTLINES: [u32; 4] = [0, 1, 2, 9];
 /// A picture so low that letters reach below it, and one that holds them.
 const HEIGHTS: [u32; 2] = [3, 45];
@@ -34,8 +35,13 @@ pub fn compare(original: &Original) -> Count {
     for words in TEXTS {
         for (bold, italic) in STYLES {
             let segments = || marked(bold, italic, two_colors(words));
-            for height in HEIGHTS {
-                small(original, &mut count, height, || cues::shortest(segments()));
+            for (height, mode) in HEIGHTS
+                .into_iter()
+                .flat_map(|height| GLYPH_MODES.map(|mode| (height, mode)))
+            {
+                small(original, &mut count, height, mode, || {
+                    cues::shortest(segments())
+                });
             }
         }
     }
@@ -59,12 +65,19 @@ fn two_colors(words: &str) -> Vec<Segment> {
     segments
 }
 
-fn small(original: &Original, count: &mut Count, height: u32, cue: impl Fn() -> Cue) {
+fn small(
+    original: &Original,
+    count: &mut Count,
+    height: u32,
+    glyph_mode: u32,
+    cue: impl Fn() -> Cue,
+) {
     for outline in OUTLINES {
         for stripe_height in STRIPE_HEIGHTS {
             let settings = Settings {
                 outline,
                 alignment: 1,
+                glyph_mode,
                 ..translucent(27, height)
             };
             count.check(each_stroke(original, settings, cue(), stripe_height));

@@ -3,7 +3,7 @@
 use crate::draw::due;
 use crate::draw::settings::Settings;
 use oxideav_core::{Segment, SubtitleCue};
-use reference::Original;
+use reference::{Original, replaced};
 use std::ops::Range;
 
 pub struct Theirs<'a> {
@@ -30,6 +30,11 @@ impl<'a> Theirs<'a> {
             total,
             stopped: None,
         }
+    }
+
+    /// How many of its letters glyph mode 1 replaces.
+    pub fn curly(&self) -> usize {
+        replaced::count(&self.cue.segments)
     }
 
     /// The whole picture.

@@ -7,10 +7,12 @@ use crate::tape::{WHITE, flatten};
 use crate::wrap::cues::Cue;
 use crate::wrap::lines::{self, Line, Outcome};
 use crate::wrap::{proved, reading};
-use reference::Original;
+use oxideav_core::Segment;
+use reference::{Original, replaced};
 
 /// Holds a cue's lines, at a limit within the range, to the original's and to the reading's, and
-/// answers them. No such cue is refused.
+/// answers them. No such cue is refused. Where glyph mode 1 replaces letters of it, the original's
+/// lines of the replaced ones are the same.
 pub fn cue(
     original: &Original,
     cue: &Cue,
@@ -20,14 +22,26 @@ pub fn cue(
     let due = reading::read(&cue.tape, workspace.inside().len(), limit);
     held(&cue.tape, limit, workspace, |found| {
         if let Ok(lines) = &found {
-            let letters = flatten(original, &cue.segments, WHITE);
-            let theirs = original.wrap(&cue.segments, WHITE, limit as usize);
-            lines::beside(lines, &letters, &theirs)
-                .map_err(|found| format!("beside the original: {found}"))?;
+            beside(original, lines, &cue.segments, limit)?;
+            if replaced::count(&cue.segments) > 0 {
+                beside(original, lines, &replaced::all(&cue.segments), limit)?;
+            }
         }
         lines::same(&found, &due)?;
         found.map_err(|refusal| format!("{refusal:?} of a cue"))
     })
+}
+
+/// Holds lines to those that the original makes of segments.
+fn beside(
+    original: &Original,
+    lines: &[Line],
+    segments: &[Segment],
+    limit: u32,
+) -> Result<(), String> {
+    let letters = flatten(original, segments, WHITE);
+    let theirs = original.wrap(segments, WHITE, limit as usize);
+    lines::beside(lines, &letters, &theirs).map_err(|found| format!("beside the original: {found}"))
 }
 
 /// Holds a call of any kind to the reading alone, which may refuse it.

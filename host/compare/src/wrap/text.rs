@@ -4,8 +4,9 @@ use crate::random::Random;
 use std::ops::RangeInclusive;
 
 /// Letters past ASCII, of which none is a space or a control here: no-break space, soft hyphen,
-/// em space, zero width space, line separator and ideographic space are not.
-const FAR: [char; 12] = [
+/// em space, zero width space, line separator and ideographic space are not. Among them are those
+/// that glyph mode 1 replaces.
+const FAR: [char; 18] = [
     '\u{a0}',
     '\u{ad}',
     'é',
@@ -13,6 +14,12 @@ const FAR: [char; 12] = [
     '\u{100}',
     '\u{2003}',
     '\u{200b}',
+    '\u{2013}',
+    '\u{2014}',
+    '\u{2018}',
+    '\u{2019}',
+    '\u{201c}',
+    '\u{201d}',
     '\u{2028}',
     '\u{3000}',
     '語',

@@ -11,7 +11,7 @@ use Rattle.tape.specs.declared.Style.{Style}
 use Rattle.tape.specs.Stored.{letterAt}
 use Rattle.compositor.specs.Order.{colorOf}
 use Rattle.compositor.proofs.Painting.{missed, then, same}
-use Rattle.compositor.proofs.ReadBack.{inked, letter-strokes}
+use Rattle.compositor.proofs.ReadBack.{inked, keyOf, letter-strokes}
 use Rattle.compositor.proofs.Total.{letter-length}
 use borrow.Author.Needs.{needs}
 use Rattle.compositor.proofs.strokes.draw_letter.Statement.{statement}
@@ -57,19 +57,21 @@ offsets-of-requires c κs = search needs
 -- the glyph and the offsets are those of any pen of the letter's style
 inks : (c : tie.After-offsets-of)
     → let after-style = c .before .before .before .before .before in
+    let after-code = after-style .before in
+    let s = after-code .before .before .before .before .before .before .args .s in
     let style = after-style .style .result in
     (k : List ℕ) (pen : Pen) → pen ≡ penOf k (style .bold) (style .italic)
-    → Inked (after-style .before .code .result) pen (c .before .glyph-of .result) (c .offsets-of .result)
+    → Inked (keyOf s (after-code .code .result)) pen (c .before .glyph-of .result) (c .offsets-of .result)
 inks c k pen e =
     let after-new2 = c .before .before in
     let after-style = after-new2 .before .before .before in
     let after-code = after-style .before in
     let start = after-code .before .before .before .before .before .before in
     let a = start .args in
-    let code = after-code .code .result in
+    let key = keyOf (a .s) (after-code .code .result) in
     let style = after-style .style .result in
-    inked (start .pre .1) code k (style .bold) (style .italic) e
-    (c .before .glyph-of .ensures ∙ ap (λ (p : Pen). glyphRows (cond (p .bold) (a .bold .now) (a .regular .now)) code) (after-new2 .new2 .ensures))
+    inked (start .pre .1) key k (style .bold) (style .italic) e
+    (c .before .glyph-of .ensures ∙ ap (λ (p : Pen). glyphRows (cond (p .bold) (a .bold .now) (a .regular .now)) (key .mode) (key .code)) (after-new2 .new2 .ensures))
     (c .offsets-of .ensures)
 
 outline-requires : tie.Need-outline-requires

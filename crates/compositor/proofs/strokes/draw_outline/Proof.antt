@@ -11,19 +11,19 @@ use Rattle.compositor.proofs.strokes.draw_outline.Statement.{statement}
 use Rattle.compositor.proofs.strokes.draw_outline.Tie as tie
 
 abbrev Inv-loop : tie.InvT-loop
-Inv-loop part₀ rows code glyph offsets at pen o left₀ dy₀ part left dy =
+Inv-loop part₀ rows key glyph offsets at pen o left₀ dy₀ part left dy =
     (dy ≤ 2 * o + 1)
     × (length part ≡ length part₀)
-    × Still rows (strokesOf code pen o at (displacements o)) left₀ part₀ (rowsLeft code pen o at dy) left part
+    × Still rows (strokesOf key pen o at (displacements o)) left₀ part₀ (rowsLeft key pen o at dy) left part
 
 abbrev μ-loop : tie.MeasureT-loop
-μ-loop part₀ rows code glyph offsets at pen o left₀ dy₀ part left dy = 2 * o + 1 - dy
+μ-loop part₀ rows key glyph offsets at pen o left₀ dy₀ part left dy = 2 * o + 1 - dy
 
 returns : tie.Need-returns Inv-loop μ-loop
 returns c = rw (displacements-none _ _ _ _ (c .if1 .taken)) (nothing _ _ _)
 
 loop-holds : tie.Need-loop-holds Inv-loop μ-loop
-loop-holds c = let a = c .before .before .args in (omega arith, refl, begin _ _ _ _ (displacements-some (a .code) (a .pen) (a .o) (a .at) (omega arith)))
+loop-holds c = let a = c .before .before .args in (omega arith, refl, begin _ _ _ _ (displacements-some (a .key) (a .pen) (a .o) (a .at) (omega arith)))
 
 mul-loop : tie.Need-mul-loop Inv-loop μ-loop
 mul-loop c = let h = c .before .before .before .pre .3 in omega arith
@@ -62,7 +62,7 @@ loop-again c =
     let fits : Lent (length (l .part)) (s .args .rows) = subst (λ (n : ℕ). Lent n (s .args .rows)) (sym (l .inv .1)) (s .pre .0) in (
       omega arith,
       d .kept .0 ∙ l .inv .1,
-      turn _ _ _ _ _ _ (rows-turn (a .code) (a .pen) (a .o) (a .at) (l .dy) h) fits (d .ensures) (l .inv .2),
+      turn _ _ _ _ _ _ (rows-turn (a .key) (a .pen) (a .o) (a .at) (l .dy) h) fits (d .ensures) (l .inv .2),
     )
 
 same-length : tie.Need-same-length Inv-loop μ-loop
@@ -73,7 +73,7 @@ returns-2 c =
     let at-loop = c .before in
     let a = at-loop .before .before .before .args in
     let l = at-loop .loop in
-    done _ _ _ _ (rows-end (a .code) (a .pen) (a .o) (a .at) (l .dy) (c .loop-test .left)) (l .inv .2)
+    done _ _ _ _ (rows-end (a .key) (a .pen) (a .o) (a .at) (l .dy) (c .loop-test .left)) (l .inv .2)
 
 pub draw-outline-spec : {M : Type 1} → statement M
 draw-outline-spec =

@@ -11,16 +11,16 @@ use Rattle.compositor.proofs.strokes.draw_outline_row.Statement.{statem
 use Rattle.compositor.proofs.strokes.draw_outline_row.Tie as tie
 
 abbrev Inv-loop : tie.InvT-loop
-Inv-loop part₀ rows code glyph offsets at pen o dy left₀ dx₀ part left dx =
+Inv-loop part₀ rows key glyph offsets at pen o dy left₀ dx₀ part left dx =
     (dx ≤ 2 * o + 1)
     × (length part ≡ length part₀)
-    × Still rows (strokesOf code pen o at (displacementRow o dy 0 (2 * o + 1))) left₀ part₀ (rowLeft code pen o at dy dx) left part
+    × Still rows (strokesOf key pen o at (displacementRow o dy 0 (2 * o + 1))) left₀ part₀ (rowLeft key pen o at dy dx) left part
 
 abbrev μ-loop : tie.MeasureT-loop
-μ-loop part₀ rows code glyph offsets at pen o dy left₀ dx₀ part left dx = 2 * o + 1 - dx
+μ-loop part₀ rows key glyph offsets at pen o dy left₀ dx₀ part left dx = 2 * o + 1 - dx
 
 loop-holds : tie.Need-loop-holds Inv-loop μ-loop
-loop-holds c = let a = c .before .args in (omega arith, refl, begin _ _ _ _ (row-begin (a .code) (a .pen) (a .o) (a .at) (a .dy)))
+loop-holds c = let a = c .before .args in (omega arith, refl, begin _ _ _ _ (row-begin (a .key) (a .pen) (a .o) (a .at) (a .dy)))
 
 mul-loop : tie.Need-mul-loop Inv-loop μ-loop
 mul-loop c = let h = c .before .before .pre .3 in omega arith
@@ -58,7 +58,7 @@ loop-again c =
     let fits : Lent (length (l .part)) (a .rows) = subst (λ (n : ℕ). Lent n (a .rows)) (sym (l .inv .1)) (e .0) in (
       omega arith,
       d .kept .0 ∙ l .inv .1,
-      turn _ _ _ _ _ _ (row-turn (a .code) (a .pen) (a .o) (a .at) (a .dy) (l .dx) h) fits (d .ensures) (l .inv .2),
+      turn _ _ _ _ _ _ (row-turn (a .key) (a .pen) (a .o) (a .at) (a .dy) (l .dx) h) fits (d .ensures) (l .inv .2),
     )
 
 same-length : tie.Need-same-length Inv-loop μ-loop
@@ -69,7 +69,7 @@ returns c =
     let at-loop = c .before in
     let a = at-loop .before .before .args in
     let l = at-loop .loop in
-    done _ _ _ _ (row-end (a .code) (a .pen) (a .o) (a .at) (a .dy) (l .dx) (c .loop-test .left)) (l .inv .2)
+    done _ _ _ _ (row-end (a .key) (a .pen) (a .o) (a .at) (a .dy) (l .dx) (c .loop-test .left)) (l .inv .2)
 
 pub draw-outline-row-spec : {M : Type 1} → statement M
 draw-outline-row-spec =

@@ -15,8 +15,8 @@ returns : tie.Need-returns
 returns c =
     let a = c .before .before .before .args in
     sym
-    (rows-kept (penRow (a .code) (a .pen) (a .at)) (4 * a .rows .width) (a .rows .count) (a .rows .first) (a .part .now)
-    (λ j row h. stroke-clear (penGlyph (a .code) (a .pen)) (penOffsets (a .pen)) (a .pen .color) (a .at .x) (a .at .base) (a .rows .first + j) row (c .if1 .taken)))
+    (rows-kept (penRow (a .key) (a .pen) (a .at)) (4 * a .rows .width) (a .rows .count) (a .rows .first) (a .part .now)
+    (λ j row h. stroke-clear (penGlyph (a .key) (a .pen)) (penOffsets (a .pen)) (a .pen .color) (a .at .x) (a .at .base) (a .rows .first + j) row (c .if1 .taken)))
 
 draw-lowest-rows-requires : tie.Need-draw-lowest-rows-requires
 draw-lowest-rows-requires c κs = search needs

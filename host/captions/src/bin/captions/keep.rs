@@ -40,12 +40,13 @@ fn line(settings: &Settings) -> String {
         bottom_margin_px,
         outline_px,
         align,
+        glyph_mode,
     } = settings;
     let [letters, outline] = [default_color, outline_color].map(|color| u32::from_be_bytes(*color));
-    let align = *align as u32;
+    let (align, glyph_mode) = (*align as u32, *glyph_mode as u32);
     format!(
         "{width} {height} {letters:08X} {outline:08X} {line_height_px} {bottom_margin_px} \
-         {outline_px} {align}"
+         {outline_px} {align} {glyph_mode}"
     )
 }
 

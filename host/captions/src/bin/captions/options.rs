@@ -1,7 +1,7 @@
 //! The options of `captions burn`, and of `captions keep`, which has the settings alone.
 
 use crate::args::Choice;
-use captions::{Align, LINE_HEIGHT_MAX, SIDE_MAX, Settings};
+use captions::{Align, GlyphMode, LINE_HEIGHT_MAX, SIDE_MAX, Settings};
 
 const COLOR: &str = "a color in hexadecimal, RRGGBB or RRGGBBAA";
 
@@ -43,9 +43,9 @@ impl Options {
 }
 
 /// How many of the choices are settings; those behind them say how a frame is drawn.
-pub const SETTINGS: usize = 8;
+pub const SETTINGS: usize = 9;
 
-pub const CHOICES: [Choice<Options>; 10] = [
+pub const CHOICES: [Choice<Options>; 11] = [
     Choice {
         name: "--width",
         value: "PIXELS",
@@ -103,6 +103,13 @@ pub const CHOICES: [Choice<Options>; 10] = [
         set: |options, value| align(&mut options.settings.align, value),
     },
     Choice {
+        name: "--glyph-mode",
+        value: "MODE",
+        takes: "0 or 1",
+        more: "1 draws curly quotes and dashes as ' \" and -; 0 by default",
+        set: |options, value| glyph_mode(&mut options.settings.glyph_mode, value),
+    },
+    Choice {
         name: "--stripes",
         value: "ROWS",
         takes: "a number from 1 to 4294967295",
@@ -148,6 +155,15 @@ fn align(to: &mut Align, value: &str) -> Option<()> {
         "start" => Align::Start,
         "right" => Align::Right,
         "end" => Align::End,
+        _ => return None,
+    };
+    Some(())
+}
+
+fn glyph_mode(to: &mut GlyphMode, value: &str) -> Option<()> {
+    *to = match value {
+        "0" => GlyphMode::Kept,
+        "1" => GlyphMode::Replaced,
         _ => return None,
     };
     Some(())
