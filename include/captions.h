@@ -30,7 +30,8 @@
  * never change, and a refused call changes no byte of the buffer.
  *
  * Strokes. A letter on a line is one stroke, and 8 more for each pixel of its outline. A cue's
- * strokes have one order; T is how many they are, and does not depend on the height.
+ * strokes have one order; T is how many they are, and depends neither on the height nor on the
+ * glyph mode.
  */
 #ifndef CAPTIONS_H
 #define CAPTIONS_H

@@ -20,6 +20,7 @@ use Rattle.compositor.specs.Order.{Stroke, letterStrokes, lineStrokes, l
 use Rattle.compositor.specs.Picture.{rowAfter, pictureAfter}
 use Rattle.compositor.specs.Draw.{tapeStrokes}
 use Rattle.compositor.specs.Replaced.{replacedLetter, inMode, DrawnReplaced, ReplacedFirst}
+use Rattle.compositor.proofs.Total.{total}
 
 module _ (ls : List Letter) where
   -- what is replaced is looked up, or what is looked up is replaced
@@ -77,6 +78,7 @@ module _ (s : Settings) where
   drawn-replaced ls =
       record {
         sameLimit = λ mode. refl;
+        sameTotal = λ mode. total (inMode mode s) ls ∙ sym (total s ls);
         sameLines = same-lines (alike ls);
         sameColumns = same-columns (alike ls);
         sameStrokes = strokes ls;

@@ -5,6 +5,7 @@
 use mathlib.Core.Path.{_≡_}
 use mathlib.Core.List.{List, map}
 use Prim.Native.Nat.{ℕ}
+use lib.ListN.{length}
 use Rattle.font.specs.Modes.{replaced}
 use Rattle.tape.specs.Outcome.{onAccepted}
 use Rattle.tape.specs.Runs.{Letter}
@@ -36,11 +37,13 @@ inMode mode s =
       «glyph_mode» = mode;
     }
 
--- Of a caption's letters. The column limit asks nothing of the mode, and letters that are replaced before they are
--- wrapped give the same lines, of the same columns. The strokes are the same, one by one; and so is what the first c of
--- them leave of each row, and of the picture, whole and partly drawn.
+-- Of a caption's letters. Neither the column limit nor the number of strokes depends on the mode, and letters that are
+-- replaced before they are wrapped give the same lines, of the same columns. The strokes in mode 1 are those of the
+-- replaced letters in mode 0, one by one; so what the first c of them leave is the same, of each row and of the
+-- picture, whole and partly drawn.
 pub record DrawnReplaced (s : Settings) (ls : List Letter) : Type 0 where
   pub sameLimit : (mode : ℕ) → columnLimit (inMode mode s) ≡ columnLimit s
+  pub sameTotal : (mode : ℕ) → length (drawing (inMode mode s) ls) ≡ length (drawing s ls)
   pub sameLines : (L : ℕ) → wrapRuns (map replacedLetter ls) L ≡ wrapRuns ls L
   pub sameColumns : (line : Line) → visibleCols (map replacedLetter ls) line ≡ visibleCols ls line
   pub sameStrokes : drawing (inMode 1 s) ls ≡ drawing (inMode 0 s) (map replacedLetter ls)

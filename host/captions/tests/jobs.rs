@@ -134,14 +134,17 @@ fn a_job_stopped_anywhere_and_then_finished_is_draw() {
     }
 }
 
+fn in_each_mode() -> [Settings; 2] {
+    [GlyphMode::Kept, GlyphMode::Replaced].map(|glyph_mode| Settings {
+        glyph_mode,
+        ..cue().0
+    })
+}
+
 /// In mode 1, stroke by stroke, a job leaves what one of the replaced letters leaves in mode 0.
 #[test]
 fn a_job_in_mode_1_is_one_of_replaced_letters() {
-    let kept = cue().0;
-    let replaced = Settings {
-        glyph_mode: GlyphMode::Replaced,
-        ..kept
-    };
+    let [kept, replaced] = in_each_mode();
     let (curly, plain) = (tape("\u{201C}a\u{2019}\n\u{2014}b"), tape("\"a'\n-b"));
     let pictures = &mut [painted(&kept, AFTER), painted(&kept, AFTER)];
     let [one, other] = pictures;
@@ -163,11 +166,7 @@ fn a_job_in_mode_1_is_one_of_replaced_letters() {
 /// A record holds no mode: a job that goes on in another is not refused, and draws in that.
 #[test]
 fn a_job_may_go_on_in_another_mode() {
-    let kept = cue().0;
-    let replaced = Settings {
-        glyph_mode: GlyphMode::Replaced,
-        ..kept
-    };
+    let [kept, replaced] = in_each_mode();
     let tape = tape("\u{2013}\u{2013}");
     let workspace = &mut Workspace::new();
     let mut picture = painted(&kept, AFTER);

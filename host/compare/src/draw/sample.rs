@@ -42,9 +42,9 @@ pub fn entries() -> Vec<u8> {
 }
 
 /// Puts an entry behind others: the settings in their order, of which width and height have two bytes
-/// and the others four; two bytes each of the stripe height, of the job's calls, which a
-/// Draw has none of, of the picture's buffer's length and of how many bytes follow, high byte first;
-/// and the Works and the tape.
+/// and the others four; two bytes each of the stripe height, of the job's calls, which a Draw has none
+/// of, of the picture's buffer's length and of how many bytes follow, high byte first; and the Works
+/// and the tape.
 pub fn put(bytes: &mut Vec<u8>, frame: &Frame, stripe_height: u16, calls: u16, works: &[u8]) {
     let settings = &frame.settings;
     for side in [settings.width, settings.height] {

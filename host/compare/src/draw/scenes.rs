@@ -10,6 +10,8 @@ use oxideav_core::Segment;
 const FILLED: (u32, u32) = (1024, 640);
 
 const WORDS: &str = "The quick brown fox jumps over the lazy dog, and so on; ";
+/// Of 55 letters nine are among those that glyph mode 1 replaces.
+const CURLY: &str = "“It’s ‘quick’,” said the fox — “or was” – to the dogs. ";
 
 /// A cue of one text, and what it is drawn with.
 pub struct Scene {
@@ -19,6 +21,7 @@ pub struct Scene {
     outline: u32,
     text: String,
     bold_italic: bool,
+    pub glyph_mode: u32,
 }
 
 pub fn scenes() -> Vec<Scene> {
@@ -33,18 +36,24 @@ pub fn scenes() -> Vec<Scene> {
     ]
 }
 
-/// Cues of which each letter is one stroke, or whose letters stand in no order.
+/// Cues of which each letter is one stroke, or whose letters stand in no order; and one in glyph mode 1.
 pub fn harder_scenes() -> Vec<Scene> {
+    let curly = over_and_over(CURLY, MOST_LETTERS);
     vec![
         Scene::new("4096 letters", FILLED, 0, words(MOST_LETTERS)),
         Scene::new("4096 letters at random", FILLED, 0, at_random()).bold_italic(),
         Scene::new("4096 letters at random", FILLED, 1, at_random()).bold_italic(),
+        Scene::new("4096 letters, some curly", FILLED, 0, curly).in_mode_1(),
     ]
 }
 
 /// So many letters of words.
 fn words(letters: usize) -> String {
-    WORDS.chars().cycle().take(letters).collect()
+    over_and_over(WORDS, letters)
+}
+
+fn over_and_over(words: &str, letters: usize) -> String {
+    words.chars().cycle().take(letters).collect()
 }
 
 fn lines(count: usize, letters: usize) -> String {
@@ -69,6 +78,15 @@ impl Scene {
             outline,
             text,
             bold_italic: false,
+            glyph_mode: 0,
+        }
+    }
+
+    fn in_mode_1(self) -> Scene {
+        Scene {
+            name: format!("{}, glyph mode 1", self.name),
+            glyph_mode: 1,
+            ..self
         }
     }
 
@@ -100,7 +118,7 @@ impl Scene {
             bottom_margin: 24,
             outline: self.outline,
             alignment: 0,
-            glyph_mode: 0,
+            glyph_mode: self.glyph_mode,
         }
     }
 }

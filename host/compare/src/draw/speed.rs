@@ -2,11 +2,12 @@
 
 use crate::draw::cases::{Colors, OPAQUE, TRANSLUCENT};
 use crate::draw::scenes::{Scene, harder_scenes, scenes};
+use crate::draw::settings::Settings;
 use crate::proved::{self, Buffers};
 use crate::tape::{ROOM, written};
 use crate::timing::{in_turn, micros};
 use oxideav_core::SubtitleCue;
-use reference::Original;
+use reference::{Original, replaced};
 use std::fmt::Write;
 use std::hint::black_box;
 
@@ -69,14 +70,25 @@ fn ratio(ours: f64, theirs: f64) -> String {
     format!("{ours:.2} / {theirs:.2} | {:.2}", ours / theirs)
 }
 
-/// Ours and theirs, on one buffer in turn.
+/// Ours and theirs, on one buffer in turn. The original is handed the letters that glyph mode 1 replaces
+/// already replaced.
 fn times(scene: &Scene, original: &Original, colors: Colors) -> [Times; 2] {
     let settings = scene.settings(colors);
-    let cues = [scene.segments(), Vec::new()].map(|segments| SubtitleCue {
-        segments,
+    let fed = Settings {
+        glyph_mode: 0,
+        ..settings
+    };
+    let segments = [scene.segments(), Vec::new()];
+    let tapes = segments
+        .each_ref()
+        .map(|segments| written::shortest(segments));
+    let cues = segments.map(|segments| SubtitleCue {
+        segments: match scene.glyph_mode {
+            1 => replaced::all(&segments),
+            _ => segments,
+        },
         positioning: None,
     });
-    let tapes = [0, 1].map(|at| written::shortest(&cues[at].segments));
     let (mut workspace, mut picture) = (vec![0; ROOM], vec![0; settings.area()]);
     let best = in_turn(|call| match call {
         0 | 1 => {
@@ -89,7 +101,7 @@ fn times(scene: &Scene, original: &Original, colors: Colors) -> [Times; 2] {
         }
         _ => {
             let cue = black_box(&cues[call - 2]);
-            original.render_into(&settings, cue, black_box(&mut picture));
+            original.render_into(&fed, cue, black_box(&mut picture));
         }
     });
     let [ours, our_clearing, theirs, their_clearing] = best.map(micros);

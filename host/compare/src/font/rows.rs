@@ -19,8 +19,8 @@ const CUTS: [&[u32]; 2] = [&[0, HEIGHT], &[0, 9, HEIGHT]];
 /// The rows of a glyph from its base line down.
 const BELOW: i64 = 4;
 
-/// Every glyph in every style, and those that glyph mode 1 replaces, inside a picture and clipped at each side and corner: after each number
-/// of its rows, and after more than it has.
+/// Every glyph in every style, and those of mode 1 for the letters that it replaces, inside a picture
+/// and clipped at each side and corner: after each number of its rows, and after more than it has.
 pub fn compare(original: &Original) -> Count {
     let mut count = Count::new("strokes after some of their rows");
     let curly = REPLACED.map(|ch| (1, ch));
