@@ -8,34 +8,7 @@ use lib.Dec.{eqb, leb, ltb}
 use lib.ListN.{length}
 use Rattle.tape.specs.Runs.{Letter}
 use Rattle.wrap.specs.Columns.{isBreak, isSpace, columnsOf}
-use Rattle.wrap.specs.Lines.{
-  Line,
-  upFrom,
-  ontoFirst,
-  withoutLast,
-  letterOf,
-  codeOf,
-  isBlankLetter,
-  visibleCols,
-  logicalLines,
-  ontoToken,
-  tokenise,
-  isSpaceToken,
-  hardBreak,
-  Filling,
-  noLines,
-  close,
-  closeIf,
-  add,
-  putChunk,
-  putChunks,
-  addOrBreak,
-  putToken,
-  putTokens,
-  fill,
-  isEmptyLine,
-  wrapRuns,
-}
+use Rattle.wrap.specs.Lines.{Line, upFrom, ontoFirst, withoutLast, letterOf, codeOf, isBlankLetter, visibleCols, logicalLines, ontoToken, tokenise, isSpaceToken, hardBreak, Filling, noLines, close, closeIf, add, putChunk, putChunks, addOrBreak, putToken, putTokens, fill, isEmptyLine, wrapRuns}
 
 pub record Alike (a b : List Letter) : Type 0 where
   pub count : length a ≡ length b
