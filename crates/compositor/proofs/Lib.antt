@@ -6,7 +6,6 @@ pub mod Outlines  -- the outline: its displacements one by one, and how many the
 pub mod Ranges  -- settings within their range, and the bounds of positions
 pub mod ReadBack  -- letters and lines read back from the workspace, one after the other
 pub mod WorkspaceHolds  -- lines read back from the workspace are those that the letters make
-pub mod EachStroke  -- what holds of each stroke of a list
 pub mod Total  -- the law: T is the letters on lines times (1 + 8o)
 pub mod LinesOff  -- lines whose strokes all miss the lent rows
 pub mod ClearedPicture  -- strokes on a picture that was cleared

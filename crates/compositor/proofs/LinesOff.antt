@@ -16,6 +16,7 @@ use Rattle.tape.specs.Runs.{Letter}
 use Rattle.wrap.specs.Laid.{lettersOn, columnsOn}
 use Rattle.compositor.specs.declared.Settings.{Settings}
 use Rattle.font.specs.declared.paint.Rows.{Rows}
+use Rattle.font.proofs.EveryEntry.{All, all-weaker, all-append, all-take, all-drop}
 use Rattle.compositor.specs.declared.strokes.Window.{Window}
 use Rattle.compositor.specs.Layout.{lineHeight, baseLine, lineWidth, lineStart}
 use Rattle.compositor.specs.Outline.{atDistance, outlineOf, displacementRow, displacementRows, displacements}
@@ -23,7 +24,6 @@ use Rattle.compositor.specs.Order.{Stroke, stroke, outlineStrokes, glyph
 use Rattle.compositor.specs.Picture.{strokeOn, strokesOn}
 use Rattle.compositor.specs.Read.{lettersAt, strokesAt}
 use Rattle.compositor.specs.Painting.{cut, after, offRows, Painted}
-use Rattle.compositor.proofs.EachStroke.{EachStroke, each-append, each-take, each-drop, each-weaken}
 
 -- ---- strokes whose base lines are at most o rows above position `high`, and below position `low`
 
@@ -31,12 +31,12 @@ abbrev Within : ℕ → ℕ → ℕ → Stroke → Type 0
 Within high low o t = (high ≤ t .base + o) × (t .base ≤ low + o)
 
 abbrev pub Around : ℕ → ℕ → ℕ → List Stroke → Type 0
-Around high low o = EachStroke (Within high low o)
+Around high low o = All (Within high low o)
 
 -- wider positions
 around-wider : (high low o y : ℕ) → high ≤ y → y ≤ low → (ts : List Stroke) → Around y y o ts → Around high low o ts
-around-wider high low o y h l =
-    each-weaken (Within y y o) (Within high low o) (λ t p. let above = p .0 in let below = p .1 in (omega arith, omega arith))
+around-wider high low o y h l ts =
+    all-weaker (Within y y o) ts (λ t p. let above = p .0 in let below = p .1 in (omega arith, omega arith))
 
 -- a glyph's strokes
 module _ (y o : ℕ) (glyph offsets k : List ℕ) (x : ℕ) where
@@ -58,7 +58,7 @@ module _ (y o : ℕ) (glyph offsets k : List ℕ) (x : ℕ) where
   rows-around dy zero h = tt
   rows-around dy (suc n) h =
       subst (Around y y o) (sym (map-append _ (displacementRow o dy 0 (2 * o + 1)) (displacementRows o (suc dy) n)))
-      (each-append (Within y y o) (strokes (displacementRow o dy 0 (2 * o + 1))) (strokes (displacementRows o (suc dy) n))
+      (all-append (Within y y o) (strokes (displacementRow o dy 0 (2 * o + 1))) (strokes (displacementRows o (suc dy) n))
       (row-around dy 0 (2 * o + 1) (omega arith)) (rows-around (suc dy) n (omega arith)))
 
   displacements-around : Around y y o (strokes (displacements o))
@@ -71,7 +71,7 @@ module _ (y o : ℕ) (glyph offsets k : List ℕ) (x : ℕ) where
 
   glyph-around : (own : List ℕ) → Around y y o (glyphStrokes glyph offsets k own o x y)
   unfolding glyphStrokes
-  glyph-around own = each-append (Within y y o) (strokes (displacements o)) (stroke glyph offsets own x y ∷ []) displacements-around ((omega arith, omega arith), tt)
+  glyph-around own = all-append (Within y y o) (strokes (displacements o)) (stroke glyph offsets own x y ∷ []) displacements-around ((omega arith, omega arith), tt)
 
 module _ (s : Settings) where
   -- a line's
@@ -79,7 +79,7 @@ module _ (s : Settings) where
   unfolding lineStrokes
   line-around x y [] = tt
   line-around x y (l ∷ ls) =
-      each-append (Within y y (outlineOf s)) (letterStrokes s l x y) (lineStrokes s (x + cellW) y ls)
+      all-append (Within y y (outlineOf s)) (letterStrokes s l x y) (lineStrokes s (x + cellW) y ls)
       (glyph-around y (outlineOf s) _ _ _ x _) (line-around (x + cellW) y ls)
 
   -- a line with more lines below it stands higher
@@ -94,7 +94,7 @@ module _ (s : Settings) where
   lines-around m (suc n) k i ws h =
       let line : List Stroke =
       lineStrokes s (lineStart s (lineWidth (columnsOn ws i))) (baseLine s n) (lettersAt ws k (lettersOn ws i)) in
-      each-append (Within _ _ (outlineOf s)) line (strokesAt s ws (k + lettersOn ws i) (suc i) n)
+      all-append (Within _ _ (outlineOf s)) line (strokesAt s ws (k + lettersOn ws i) (suc i) n)
       (around-wider _ _ (outlineOf s) (baseLine s n) (base-higher n (m - 1) (omega arith)) (base-higher 0 n (omega arith)) line
       (line-around (lineStart s (lineWidth (columnsOn ws i))) (baseLine s n) (lettersAt ws k (lettersOn ws i))))
       (lines-around m n (k + lettersOn ws i) (suc i) ws (omega arith))
@@ -125,7 +125,7 @@ module _ (rows : Rows) (high low o : ℕ) (far : 32 ≤ high) (thin : o ≤ 2) (
   -- so whatever the window has of them, nothing changes
   pub missing : (ts : List Stroke) {n : ℕ} (w : Window) (part : List ℕ) → n ≡ length ts → Around high low o ts → Painted rows ts w part part (after w n)
   missing ts w part e p =
-      let some = each-drop (Within high low o) (w .from) (take (w .to) ts) (each-take (Within high low o) (w .to) ts p) in
+      let some = all-drop (Within high low o) (w .from) (take (w .to) ts) (all-take (Within high low o) (w .to) ts p) in
       record {
         paints =
             sym (rows-kept (strokesOn (cut w ts)) (4 * rows .width) (rows .count) (rows .first) part (λ j row h. all-spared (cut w ts) j row h some));

@@ -16,6 +16,7 @@ use Rattle.font.specs.Paint.{origin, lit, paintColumn, paintColumns, strokeRow}
 use Rattle.font.proofs.EveryEntry.{each}
 use Rattle.font.proofs.Columns.{column-left}
 use Rattle.font.proofs.Rows.{stroke-on, stroke-above, stroke-below}
+use Rattle.font.proofs.EveryEntry.{All, all-append}
 use Rattle.tape.specs.Command.{mostLetters}
 use Rattle.tape.specs.Runs.{Letter}
 use Rattle.wrap.specs.Lines.{Line, letterOf, visibleCols, wrapRuns}
@@ -28,7 +29,6 @@ use Rattle.compositor.specs.Picture.{strokeOn}
 use Rattle.compositor.specs.Ready.{InRange, mostLines}
 use Rattle.compositor.specs.Outline.{mostOutline, outlineOf, displacementRow, displacementRows, displacements}
 use Rattle.compositor.specs.Plain.{signed, plainOffset, plainDisplacements, plainColumn, plainColumns, plainGlyphRow, plainStrokeRow}
-use Rattle.compositor.proofs.EachStroke.{EachStroke, each-append}
 use Rattle.compositor.proofs.Plain.{from-above, from-below, is-sub, by-size, sub-same, add-sub, minus-sub, is-signed}
 
 -- ---- columns
@@ -136,24 +136,24 @@ placed-plain t p y row =
     ∙ stroke-plain (t .rows) (p .italic) (t .color) (t .x) (t .base) y row (p .wide) (p .high)
 
 placed-outline : (rows : List ℕ) (italic : Bool) (k : List ℕ) (o x base : ℕ) → 16 ≤ x → 16 ≤ base → o ≤ 2 → (ds : List (ℕ × ℕ))
-    → EachStroke Placed (outlineStrokes rows (rowOffsets italic) k o x base ds)
+    → All Placed (outlineStrokes rows (rowOffsets italic) k o x base ds)
 placed-outline rows italic k o x base h j l [] = tt
 placed-outline rows italic k o x base h j l (d ∷ ds) =
     (record { italic = italic; slants = refl; wide = omega arith; high = omega arith }, placed-outline rows italic k o x base h j l ds)
 
 module _ (s : Settings) where
-  placed-letter : (l : Letter) (x base : ℕ) → 16 ≤ x → 16 ≤ base → EachStroke Placed (letterStrokes s l x base)
+  placed-letter : (l : Letter) (x base : ℕ) → 16 ≤ x → 16 ≤ base → All Placed (letterStrokes s l x base)
   unfolding glyphStrokes
   placed-letter l x base h j =
-      each-append Placed (outlineStrokes _ _ _ (outlineOf s) x base (displacements (outlineOf s))) _
+      all-append Placed (outlineStrokes _ _ _ (outlineOf s) x base (displacements (outlineOf s))) _
       (placed-outline _ (l .style .italic) _ (outlineOf s) x base h j (omega arith) (displacements (outlineOf s)))
       (record { italic = l .style .italic; slants = refl; wide = omega arith; high = omega arith }, tt)
 
-  placed-line : (ls : List Letter) (x base : ℕ) → 16 ≤ x → 16 ≤ base → EachStroke Placed (lineStrokes s x base ls)
+  placed-line : (ls : List Letter) (x base : ℕ) → 16 ≤ x → 16 ≤ base → All Placed (lineStrokes s x base ls)
   unfolding lineStrokes
   placed-line [] x base h j = tt
   placed-line (l ∷ ls) x base h j =
-      each-append Placed (letterStrokes s l x base) _ (placed-letter l x base h j) (placed-line ls (x + cellW) base (omega arith) j)
+      all-append Placed (letterStrokes s l x base) _ (placed-letter l x base h j) (placed-line ls (x + cellW) base (omega arith) j)
 
   module _ (range : InRange s) (ls : List Letter) where
     start-far : (w : ℕ) → w ≤ 4096 → 16 ≤ lineStart s w
@@ -174,7 +174,7 @@ module _ (s : Settings) where
         omega arith
 
     placed-lines : (lines : List Line) → length lines ≤ mostLines → ((i : ℕ) → visibleCols ls (getD lines i []) ≤ columnLimit s)
-        → EachStroke Placed (linesStrokes s ls lines)
+        → All Placed (linesStrokes s ls lines)
     unfolding linesStrokes
     placed-lines [] few narrow = tt
     placed-lines (line ∷ below) few narrow =
@@ -182,11 +182,11 @@ module _ (s : Settings) where
         let columns = narrow 0 in
         let x = lineStart s (lineWidth (visibleCols ls line)) in
         let base = baseLine s (length below) in
-        each-append Placed (lineStrokes s x base (map (letterOf ls) line)) (linesStrokes s ls below)
+        all-append Placed (lineStrokes s x base (map (letterOf ls) line)) (linesStrokes s ls below)
         (placed-line (map (letterOf ls) line) x base (start-far (lineWidth (visibleCols ls line)) (omega arith)) (base-far (length below) (omega arith)))
         (placed-lines below (omega arith) (λ i. narrow (suc i)))
 
-    pub drawing-placed : length ls ≤ mostLetters → EachStroke Placed (drawing s ls)
+    pub drawing-placed : length ls ≤ mostLetters → All Placed (drawing s ls)
     unfolding drawing
     drawing-placed h =
         let few = few-lines ls (columnLimit s) (omega arith) in

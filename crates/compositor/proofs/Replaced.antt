@@ -1,6 +1,6 @@
 -- THE LAW of glyph mode 1 (document 02, S-3): drawing in mode 1 is drawing the replaced letters in mode 0.
 use mathlib.Core.Path.{_≡_, _∙_, refl, sym, ap, ap₂}
-use mathlib.Core.List.{List, [], _∷_, _++_, map}
+use mathlib.Core.List.{List, [], _∷_, _++_, map, map-map}
 use Prim.Native.Nat.{ℕ, _+_}
 use lib.ListN.{length, length-map, List·getD-map}
 use Rattle.font.specs.Font.{cellW}
@@ -23,14 +23,13 @@ use Rattle.compositor.specs.Replaced.{replacedLetter, inMode, DrawnRepla
 use Rattle.compositor.proofs.Total.{total}
 
 module _ (ls : List Letter) where
-  -- what is replaced is looked up, or what is looked up is replaced
+  -- letter k of the replaced ones is letter k, replaced
   letter-at : (k : ℕ) → letterOf (map replacedLetter ls) k ≡ replacedLetter (letterOf ls k)
   unfolding replaced
   letter-at k = List·getD-map replacedLetter ls k noLetter
 
   letters-at : (line : Line) → map (letterOf (map replacedLetter ls)) line ≡ map replacedLetter (map (letterOf ls) line)
-  letters-at [] = refl
-  letters-at (k ∷ line) = λ i. letter-at k i ∷ letters-at line i
+  letters-at line = (λ i. map (λ k. letter-at k i) line) ∙ sym (map-map replacedLetter (letterOf ls) line)
 
   -- a question that no pair's code points are told apart by
   asked : {A : Type 0} (f : ℕ → A) → All {A = ℕ × ℕ} (λ p. f (p .1) ≡ f (p .0)) replacements
@@ -38,7 +37,6 @@ module _ (ls : List Letter) where
   asked f pairs k = ap (λ (l : Letter). f (l .code)) (letter-at k) ∙ not-told-apart f pairs (letterOf ls k .code)
 
   alike : Alike (map replacedLetter ls) ls
-  unfolding All
   alike =
       record {
         count = length-map ls replacedLetter;

@@ -32,7 +32,7 @@ const MOST_OUTLINE: u32 = 2;
 
 // The nine settings, in the order in which they are kept. Sizes are in pixels; colors are red, green,
 // blue, alpha; `align`, the alignment, is 0 centre, 1 left, 2 start, which is as left, 3 right, 4 end,
-// which is as right; `glyph_mode` 1 draws curly quotes and dashes as plain ones, 0 as boxes.
+// which is as right; `glyph_mode` 1 draws four curly quotes and two dashes as plain ones, 0 as boxes.
 pub struct Settings {
     pub width: u32,
     pub height: u32,

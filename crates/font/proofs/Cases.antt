@@ -67,19 +67,19 @@ cases =
 abbrev Draws : ℕ → List ℕ → List ℕ → Type 0
 Draws mode codes others = map (drawnCode mode) codes ≡ others
 
-abbrev six : List ℕ
-six = 0x2018 ∷ 0x2019 ∷ 0x201c ∷ 0x201d ∷ 0x2013 ∷ 0x2014 ∷ []
+abbrev curly : List ℕ
+curly = 0x2018 ∷ 0x2019 ∷ 0x201c ∷ 0x201d ∷ 0x2013 ∷ 0x2014 ∷ []
 
--- code points beside the six, and what these are drawn as
+-- code points beside these, and what these are drawn as
 abbrev beside : List ℕ
 beside = 0x2012 ∷ 0x2015 ∷ 0x2017 ∷ 0x201a ∷ 0x201b ∷ 0x201e ∷ 0x22 ∷ 0x27 ∷ 0x2d ∷ 0 ∷ 0x10ffff ∷ []
 
 pub record ModeCases : Type 0 where
-  pub replaced-in-1 : Draws 1 six (0x27 ∷ 0x27 ∷ 0x22 ∷ 0x22 ∷ 0x2d ∷ 0x2d ∷ [])
+  pub replaced-in-1 : Draws 1 curly (0x27 ∷ 0x27 ∷ 0x22 ∷ 0x22 ∷ 0x2d ∷ 0x2d ∷ [])
   pub kept-in-1 : Draws 1 beside beside
-  pub kept-in-0 : Draws 0 six six
+  pub kept-in-0 : Draws 0 curly curly
   -- no call draws in another mode
-  pub kept-in-2 : Draws 2 six six
+  pub kept-in-2 : Draws 2 curly curly
   -- a quote, which is bold in bold; the box, which never is
   pub quote : glyphRows regularTable 1 0x2019 ≡ (0 ∷ 0x18 ∷ 0x18 ∷ 0x10 ∷ []) ++ replicate 12 0
   pub bold-quote : glyphRows boldTable 1 0x2018 ≡ (0 ∷ 0x1c ∷ 0x1c ∷ 0x18 ∷ []) ++ replicate 12 0

@@ -8,7 +8,7 @@ use Prim.Native.Nat.{ℕ, zero, suc, _+_, _<_}
 use native.Mathlib.Nat.{add-zero, zero-add, add-suc, suc-add, le-of-suc-le-suc, not-suc-le-zero, eq-or-lt-of-le}
 use lib.Dec.{T}
 use lib.Ieee.Fits.{and-l, and-r}
-use lib.ListN.{length, getD}
+use lib.ListN.{length, getD, take, drop}
 
 module _ {A : Type 0} (f : ℕ → A → Bool) where
   -- f passes at each entry of a list and its number, counted from i
@@ -27,20 +27,28 @@ module _ {A : Type 0} (f : ℕ → A → Bool) where
   at d xs t k h = subst (λ (m : ℕ). T (f m (getD xs k d))) (zero-add k) (from d xs 0 t k h)
 
 module _ {A : Type 0} where
-  unfoldable pub All : (A → Type 0) → List A → Type 0
+  abbrev pub All : (A → Type 0) → List A → Type 0
   All P [] = Unit
   All P (x ∷ xs) = P x × All P xs
 
   module _ (P : A → Type 0) where
     pub all-weaker : {Q : A → Type 0} (xs : List A) → ((x : A) → P x → Q x) → All P xs → All Q xs
-    unfolding All
     all-weaker [] f e = tt
     all-weaker (x ∷ xs) f e = (f x (e .0), all-weaker xs f (e .1))
 
     pub all-append : (xs ys : List A) → All P xs → All P ys → All P (xs ++ ys)
-    unfolding All
     all-append [] ys e f = f
     all-append (x ∷ xs) ys e f = (e .0, all-append xs ys (e .1) f)
+
+    pub all-take : (n : ℕ) (xs : List A) → All P xs → All P (take n xs)
+    all-take zero xs e = tt
+    all-take (suc n) [] e = tt
+    all-take (suc n) (x ∷ xs) e = (e .0, all-take n xs (e .1))
+
+    pub all-drop : (n : ℕ) (xs : List A) → All P xs → All P (drop n xs)
+    all-drop zero xs e = e
+    all-drop (suc n) [] e = tt
+    all-drop (suc n) (x ∷ xs) e = all-drop n xs (e .1)
 
 abbrev pub Each : (ℕ → Type 0) → ℕ → Type 0
 Each P zero = Unit

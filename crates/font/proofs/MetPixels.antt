@@ -60,7 +60,6 @@ module _ (p bits x width : ℕ) where
 
   next-before : (c : ℕ) (t : Bool) → (lit bits c && onRow (x + c) (4 * width)) ≡ t
       → All (Before (suc c)) (cond t ((p + (x + c - origin)) ∷ []) [])
-  unfolding All
   next-before c false e = tt
   next-before c true e =
       let on = on-fits (x + c) width (and-eq-true-iff (lit bits c) (onRow (x + c) (4 * width)) .0 e .1) in
@@ -69,7 +68,7 @@ module _ (p bits x width : ℕ) where
       ((omega arith, omega arith, omega arith), tt)
 
   columns-before : (c : ℕ) → All (Before c) (metColumns p bits x width c)
-  unfolding All metColumns
+  unfolding metColumns
   columns-before zero = tt
   columns-before (suc c) =
       all-append (Before (suc c)) (metColumns p bits x width c) _
@@ -139,7 +138,6 @@ module _ (rows offsets : List ℕ) (x base width n first : ℕ) where
   Next j q = (start (suc j) * width ≤ q) × (q < start j * width)
 
   next-row : (j : ℕ) → j < 16 → All (Next j) (pixelsOf (16 - suc j))
-  unfolding All
   next-row j h = at (lands (16 - suc j)) where
     at : Lands (16 - suc j) → All (Next j) (pixelsOf (16 - suc j))
     at (off none e) = rw e tt
@@ -153,7 +151,7 @@ module _ (rows offsets : List ℕ) (x base width n first : ℕ) where
         (λ q b. (rw here (b .0), rw (next, suc-mul i width) (b .1))) (columns-before (i * width) bits left width 8))
 
   rows-from : (j : ℕ) → j ≤ 16 → All (λ q. start j * width ≤ q) (pixelsTo j)
-  unfolding All met
+  unfolding met
   rows-from zero h = tt
   rows-from (suc j) h =
       let lower : start (suc j) * width ≤ start j * width = mul-le-mul-right width (omega arith) in

@@ -15,7 +15,7 @@ Unreplaced code = All {A = ℕ × ℕ} (λ p. code ≡ p .0 → ⊥) replacement
 
 -- what is not replaced stays
 pub kept : (code : ℕ) → Unreplaced code → replaced code ≡ code
-unfolding replaced All
+unfolding replaced
 kept code = from replacements
   where
     from : (ps : List (ℕ × ℕ)) → All {A = ℕ × ℕ} (λ p. code ≡ p .0 → ⊥) ps → pairedWith ps code ≡ code
@@ -24,7 +24,7 @@ kept code = from replacements
 
 -- what does not tell the two code points of any pair apart does not tell a code point from what replaces it
 pub not-told-apart : {A : Type 0} (f : ℕ → A) → All {A = ℕ × ℕ} (λ p. f (p .1) ≡ f (p .0)) replacements → (code : ℕ) → f (replaced code) ≡ f code
-unfolding replaced All
+unfolding replaced
 not-told-apart {A} f each code = from replacements each
   where
     by : (p : ℕ × ℕ) (rest : ℕ) → f (p .1) ≡ f (p .0) → f rest ≡ f code → (b : Bool) → eqb code (p .0) ≡ b → f (cond b (p .1) rest) ≡ f code

@@ -25,7 +25,7 @@ lt-by-cases {P} a b less same more = at (ltb a b) refl (ltb b a) refl where
 
 -- a list of others has not this pixel
 pub without : (p : ℕ) (ps : List ℕ) → All (λ q. p ≡ q → ⊥) ps → hasPixel p ps ≡ false
-unfolding All hasPixel
+unfolding hasPixel
 without p [] e = refl
 without p (q ∷ ps) e = simp (ne-eqb p q (e .0), without p ps (e .1))
 
@@ -46,7 +46,7 @@ first-once p ps e =
 -- two lists, of which the second has nothing of the first
 pub both-once : (ps qs : List ℕ) → noneTwice ps ≡ true → noneTwice qs ≡ true → All (λ p. hasPixel p qs ≡ false) ps
     → noneTwice (ps ++ qs) ≡ true
-unfolding All noneTwice
+unfolding noneTwice
 both-once [] qs e f g = f
 both-once (p ∷ ps) qs e f g =
     let first = first-once p ps e in

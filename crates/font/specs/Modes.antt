@@ -1,7 +1,7 @@
 -- Glyph modes: document 02, S-3. Definitions only.
--- A caption is drawn in one of two glyph modes, which is a setting: 0, or 1, in which curly quotes and dashes have the
--- glyphs of plain ones. The mode decides which glyphs are drawn, and nothing else: lines are broken by the letters that
--- the tape has.
+-- A caption is drawn in one of two glyph modes, which is a setting: 0, or 1, in which four curly quotes and two dashes
+-- have the glyphs of 27, 22 and 2D. The mode decides which glyphs are drawn, and nothing else: lines are broken by the
+-- letters that the tape has.
 use mathlib.Core.Bool.{cond}
 use mathlib.Core.List.{List, [], _∷_}
 use Prim.Native.Nat.{ℕ}

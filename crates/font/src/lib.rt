@@ -62,7 +62,7 @@ pub struct GlyphKey {
 }
 
 impl GlyphKey {
-    // The code point whose glyph is drawn. In mode 1 curly quotes and dashes are drawn as plain ones.
+    // The code point whose glyph is drawn.
     fn drawn_code(self) -> u32
         ensures { λ r. ⌜ r ≡ drawnCode (self .mode) (self .code) ⌝ }
     {

@@ -26,8 +26,8 @@ pub enum GlyphMode {
     /// All as boxes.
     #[default]
     Kept = 0,
-    /// Curly quotes and dashes, U+2018, U+2019, U+201C, U+201D, U+2013 and U+2014, as `'`, `"` and
-    /// `-`; the others as boxes. Lines stay as they are.
+    /// U+2018 and U+2019 as `'`, U+201C and U+201D as `"`, U+2013 and U+2014 as `-`; the others as
+    /// boxes. Lines stay as they are.
     Replaced = 1,
 }
 

@@ -98,9 +98,12 @@ pub fn cue(random: &mut Random) -> Cue {
 pub fn legible(random: &mut Random, letters: RangeInclusive<i64>) -> Cue {
     let count = random.within(letters);
     let curly = random.one_in(3);
-    let mut next = || match curly && random.one_in(2) {
-        true => curly::letter(random),
-        false => letter(random),
+    let mut next = || {
+        if curly && random.one_in(2) {
+            curly::letter(random)
+        } else {
+            letter(random)
+        }
     };
     let text: Vec<char> = (0..count).map(|_| next()).collect();
     cues::of_text(random, &text)

@@ -50,28 +50,24 @@ returns-4 c =
     rw (branch1 .if1 .left) (arm 0x201c 0x22 (branch1 .before .before .args .self .code) refl refl (c .before .if6 .left) (c .if7 .taken))
 
 returns-5 : tie.Need-returns-5
-unfolding All
 returns-5 c =
     let branch1 = c .before in
     let code = branch1 .before .before .args .self .code in
     rw (branch1 .if1 .left) (gap 0 0x2013 code (omega arith) (c .if2 .taken) (tt, (tt, (tt, (tt, (tt, (tt, tt)))))))
 
 returns-6 : tie.Need-returns-6
-unfolding All
 returns-6 c =
     let branch1 = c .before .before .before in
     let code = branch1 .before .before .args .self .code in
     rw (branch1 .if1 .left) (gap 0x2015 0x2018 code (c .before .if3 .left) (c .if4 .taken) (tt, (tt, (tt, (tt, (tt, (tt, tt)))))))
 
 returns-7 : tie.Need-returns-7
-unfolding All
 returns-7 c =
     let branch1 = c .before .before .before .before .before in
     let code = branch1 .before .before .args .self .code in
     rw (branch1 .if1 .left) (gap 0x201a 0x201c code (c .before .if5 .left) (c .if6 .taken) (tt, (tt, (tt, (tt, (tt, (tt, tt)))))))
 
 returns-8 : tie.Need-returns-8
-unfolding All
 returns-8 c =
     let branch1 = c .before .before .before .before .before .before in
     let code = branch1 .before .before .args .self .code in

@@ -106,7 +106,7 @@ pub const CHOICES: [Choice<Options>; 11] = [
         name: "--glyph-mode",
         value: "MODE",
         takes: "0 or 1",
-        more: "1 draws curly quotes and dashes as ' \" and -; 0 by default",
+        more: "1 draws ‘ ’ “ ” – — as ' ' \" \" - -; 0 by default",
         set: |options, value| glyph_mode(&mut options.settings.glyph_mode, value),
     },
     Choice {
