@@ -29,9 +29,10 @@
  * pixels from the left, of each the bytes red, green, blue, alpha. The bytes after the picture
  * never change, and a refused call changes no byte of the buffer.
  *
- * Strokes. A letter on a line is one stroke, and 8 more for each pixel of its outline. A cue's
- * strokes have one order; T is how many they are, and depends neither on the height nor on the
- * glyph mode.
+ * Strokes. A letter on a line that has ink is one stroke, and 8 more for each pixel of its outline. A
+ * letter without ink has none: spaces and controls, code points 00 to 20 and 7F to A0, and AD, in
+ * every style. A cue's strokes have one order; T is how many they are, and depends on the tape and
+ * the outline alone.
  */
 #ifndef CAPTIONS_H
 #define CAPTIONS_H
@@ -46,8 +47,10 @@ extern "C" {
 /*
  * The number of this interface: what is declared here, and what it means. It grows by one with each
  * change of that, an addition too. A program is linked with the library of its header's version.
+ * Until version 3 letters without ink had strokes too, so that a record of then is not to be worked
+ * on with this library: its job is opened anew.
  */
-#define CAPTIONS_VERSION 2
+#define CAPTIONS_VERSION 3
 
 #define CAPTIONS_TAPE_MAX 16384       /* bytes of a tape */
 #define CAPTIONS_WORKSPACE_MIN 65536  /* bytes of a workspace */

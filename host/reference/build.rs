@@ -1,7 +1,7 @@
 //! Looks for the two original files and, where both are there, declares them as modules of this
-//! crate: `font.rs` at the place where it stands, and `compositor.rs` as a copy in the build's own
-//! folder with `append/compositor.rs` behind it, since what the comparison calls there is private,
-//! and then its draw loop once more with a counter in it.
+//! crate: copies in the build's own folder, each with the text of `append/` behind it, since what the
+//! comparison calls there is private, and `compositor.rs` then with its draw loop once more and a
+//! counter in it.
 
 mod counted;
 
@@ -10,12 +10,15 @@ use std::fs;
 use std::io;
 use std::path::{Path, PathBuf};
 
-const FILES: [&str; 2] = ["font.rs", "compositor.rs"];
+/// The file that has the draw loop.
+const DRAWS: &str = "compositor.rs";
+const FILES: [&str; 2] = ["font.rs", DRAWS];
 
 fn main() -> io::Result<()> {
     println!("cargo::rustc-check-cfg=cfg(original)");
     println!("cargo::rerun-if-changed=build.rs");
     println!("cargo::rerun-if-changed=counted.rs");
+    println!("cargo::rerun-if-changed=append");
     println!("cargo::rerun-if-env-changed=CAPTIONS_RUST");
     let folder = folder();
     println!(
@@ -69,21 +72,20 @@ fn declare(folder: &Path) -> io::Result<()> {
     Ok(())
 }
 
-/// The file itself, or, where `append/` has something to put behind it, a copy with that and with
-/// the counted loop.
+/// A copy of the file with what `append/` has for it and, behind the draw loop, the counted one.
 fn opened(file: &Path, name: &str, out: &Path) -> io::Result<PathBuf> {
-    let append = Path::new("append").join(name);
-    println!("cargo::rerun-if-changed=append");
-    if !append.is_file() {
-        return Ok(file.to_path_buf());
-    }
-    let copy = out.join(name);
     let text = fs::read_to_string(file)?;
-    let counted = counted::methods(&text).unwrap_or_else(|found| {
+    let append = fs::read_to_string(Path::new("append").join(name))?;
+    let counted = match name {
+        DRAWS => counted::methods(&text),
+        _ => counted::lookup(&text).map(|()| String::new()),
+    };
+    let counted = counted.unwrap_or_else(|found| {
         let file = file.display();
-        println!("cargo::error=no counter can be put into the draw loop of {file}: {found}");
+        println!("cargo::error=no stroke can be counted, {file} is not as expected: {found}");
         String::new()
     });
-    fs::write(&copy, text + &fs::read_to_string(append)? + &counted)?;
+    let copy = out.join(name);
+    fs::write(&copy, text + &append + &counted)?;
     Ok(copy)
 }

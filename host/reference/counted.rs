@@ -39,6 +39,12 @@ pub fn methods(text: &str) -> Result<String, String> {
     Ok(counted + "}\n")
 }
 
+/// Whether the font looks a letter's glyph up where it draws it and nowhere else, so that what
+/// `append/font.rs` asks is asked of the glyph that is drawn.
+pub fn lookup(text: &str) -> Result<(), String> {
+    stands(text, "self.glyph_rows(ch)", 1)
+}
+
 /// A method's text: from its name, which stands there once, to the first brace as far in.
 fn method<'a>(text: &'a str, name: &str) -> Result<&'a str, String> {
     const END: &str = "\n    }\n";
@@ -55,11 +61,15 @@ fn method<'a>(text: &'a str, name: &str) -> Result<&'a str, String> {
 fn changed(method: &str, changes: &[Change]) -> Result<String, String> {
     let mut text = method.to_string();
     for (from, times, to) in changes {
-        let found = text.matches(from).count();
-        if found != *times {
-            return Err(format!("`{from}` stands there {found} times, not {times}"));
-        }
+        stands(&text, from, *times)?;
         text = text.replace(from, to);
     }
     Ok(text)
+}
+
+fn stands(text: &str, piece: &str, times: usize) -> Result<(), String> {
+    match text.matches(piece).count() {
+        found if found == times => Ok(()),
+        found => Err(format!("`{piece}` stands there {found} times, not {times}")),
+    }
 }

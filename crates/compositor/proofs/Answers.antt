@@ -1,6 +1,6 @@
 -- For the layers above: how far the outcome of a call goes.
 use mathlib.Core.Path.{_≡_}
-use mathlib.Core.List.{List, flatten}
+use mathlib.Core.List.{List}
 use Prim.Native.Nat.{ℕ, zero, suc, _≤_, _<_, _^_}
 use native.Mathlib.Omega.{arith}
 use borrow.Author.Tests.{ltb-false}
@@ -16,16 +16,14 @@ use Rattle.tape.specs.Style.{defaultWith}
 use Rattle.tape.specs.Tape.{mostBytes, leastRoom, tapeLetters}
 use Rattle.tape.proofs.Calls.{Bounded, refuse-bounded, weaken, Packs, packs}
 use Rattle.tape.proofs.Answers.{tape-bounded}
-use Rattle.wrap.specs.Lines.{wrapRuns}
-use Rattle.wrap.proofs.EachLetterOnce.{few-letters}
+use Rattle.wrap.specs.Shown.{inkedLetters}
 use Rattle.compositor.specs.declared.Settings.{Settings}
 use Rattle.compositor.specs.Settings.{outOfRange, pictureBytes}
-use Rattle.compositor.specs.Layout.{columnLimit}
 use Rattle.compositor.specs.Outline.{outlineOf}
 use Rattle.compositor.specs.Order.{Stroke, drawing}
 use Rattle.compositor.specs.Draw.{Tapes, tapeStrokes, cueCall}
 use Rattle.compositor.specs.Ready.{mostStrokes}
-use Rattle.compositor.proofs.Total.{total}
+use Rattle.compositor.proofs.Total.{total, inked-few}
 use Rattle.compositor.proofs.WrappedLines.{total-small}
 
 -- no more strokes than a caption has
@@ -41,8 +39,8 @@ strokes-bounded s tape short = own (tapeLetters style tape) (tape-bounded style 
 
     own : (o : Outcome (List Letter)) → Bounded (λ ls. length ls ≤ mostLetters) 7 o → Bounded Few 7 (onAccepted (drawing s) o)
     own (accepted ls) few =
-        let some = few-letters ls (columnLimit s) in
-        let small = total-small (length (flatten (wrapRuns ls (columnLimit s)))) (outlineOf s) (omega arith) (omega arith) in
+        let some = inked-few ls in
+        let small = total-small (inkedLetters ls) (outlineOf s) (omega arith) (omega arith) in
         let all = total s ls in
         omega arith
     own (refused number place) b = b

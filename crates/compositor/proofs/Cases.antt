@@ -1,4 +1,4 @@
--- DOCUMENT 01'S CASES a TO l, and some more: tapes and settings, and what Wrap and Draw make of them, by computation.
+-- DOCUMENT 01'S CASES a TO l, cases of letters without ink, and some more: tapes and settings, and what Wrap and Draw make of them, by computation.
 use mathlib.Core.Path.{_≡_, refl}
 use mathlib.Core.List.{List, [], _∷_, _++_, map, flatten}
 use Prim.Native.Nat.{ℕ, _+_, _-_, _*_}
@@ -7,6 +7,7 @@ use lib.ListN.{length, getD, replicate}
 use Rattle.font.specs.Blend.{blendByte, blendAlpha, blendOver, blendPixel}
 use Rattle.font.specs.Modes.{replaced}
 use Rattle.font.specs.Font.{embolden, tabulate, regularTable, boldTable}
+use Rattle.font.specs.Ink.{hasInk}
 use Rattle.font.specs.Paint.{origin, paintColumn, paintColumns, strokeRow}
 use Rattle.tape.specs.Outcome.{accepted, refused, onAccepted}
 use Rattle.tape.specs.Style.{sameStyle}
@@ -49,10 +50,11 @@ settings = settingsIn 0
 abbrev columns : ℕ → Settings
 columns L = settings (8 * L) 0 0 0 0
 
--- at L columns the tape makes these lines, in a call of Wrap, and a call of Draw has a stroke for each letter on them
-abbrev Makes : ℕ → List ℕ → List Line → Type 0
-Makes L tape lines =
-    Wrap.Makes L tape lines × (onAccepted length (drawCall (columns L) leastRoom 0 tape) ≡ accepted (length (flatten lines)))
+-- at L columns the tape makes these lines, in a call of Wrap, and a call of Draw has so many strokes, one for each letter
+-- with ink
+abbrev Makes : ℕ → List ℕ → List Line → ℕ → Type 0
+Makes L tape lines inked =
+    Wrap.Makes L tape lines × (onAccepted length (drawCall (columns L) leastRoom 0 tape) ≡ accepted inked)
 
 abbrev Refuses : Settings → ℕ → List ℕ → ℕ → ℕ → Type 0
 Refuses s size tape number place = drawCall s leastRoom size tape ≡ refused number place
@@ -70,18 +72,18 @@ AB = lettersBytes (0x41 ∷ 0x42 ∷ [])
 
 -- document 01's cases
 pub record Document01 : Type 0 where
-  pub a : Makes 4 [] []
-  pub b : Makes 4 (lettersBytes (0x41 ∷ 0x42 ∷ 0x43 ∷ 0x44 ∷ [])) ((0 ∷ 1 ∷ 2 ∷ 3 ∷ []) ∷ [])
-  pub c : Makes 4 (lettersBytes (0x41 ∷ 0x42 ∷ 0x43 ∷ 0x44 ∷ 0x45 ∷ [])) ((0 ∷ 1 ∷ 2 ∷ 3 ∷ []) ∷ (4 ∷ []) ∷ [])
+  pub a : Makes 4 [] [] 0
+  pub b : Makes 4 (lettersBytes (0x41 ∷ 0x42 ∷ 0x43 ∷ 0x44 ∷ [])) ((0 ∷ 1 ∷ 2 ∷ 3 ∷ []) ∷ []) 4
+  pub c : Makes 4 (lettersBytes (0x41 ∷ 0x42 ∷ 0x43 ∷ 0x44 ∷ 0x45 ∷ [])) ((0 ∷ 1 ∷ 2 ∷ 3 ∷ []) ∷ (4 ∷ []) ∷ []) 5
   pub d :
       Makes 4 (lettersBytes (0x41 ∷ 0x42 ∷ 0x43 ∷ 0x44 ∷ 0x45 ∷ 0x46 ∷ 0x47 ∷ 0x48 ∷ []) ++ (0x05 ∷ 0x02 ∷ 0x49 ∷ []))
-      ((0 ∷ 1 ∷ 2 ∷ 3 ∷ []) ∷ (4 ∷ 5 ∷ 6 ∷ 7 ∷ []) ∷ [] ∷ (9 ∷ []) ∷ [])
-  pub e : Makes 4 (lettersBytes (0x41 ∷ 0x42 ∷ 0x01 ∷ 0x43 ∷ 0x44 ∷ 0x45 ∷ [])) ((0 ∷ 1 ∷ 2 ∷ 3 ∷ []) ∷ (4 ∷ 5 ∷ []) ∷ [])
-  pub f : Makes 2 (lettersBytes (0x41 ∷ 0x20 ∷ 0x20 ∷ 0x42 ∷ [])) ((0 ∷ []) ∷ (3 ∷ []) ∷ [])
+      ((0 ∷ 1 ∷ 2 ∷ 3 ∷ []) ∷ (4 ∷ 5 ∷ 6 ∷ 7 ∷ []) ∷ [] ∷ (9 ∷ []) ∷ []) 9
+  pub e : Makes 4 (lettersBytes (0x41 ∷ 0x42 ∷ 0x01 ∷ 0x43 ∷ 0x44 ∷ 0x45 ∷ [])) ((0 ∷ 1 ∷ 2 ∷ 3 ∷ []) ∷ (4 ∷ 5 ∷ []) ∷ []) 5
+  pub f : Makes 2 (lettersBytes (0x41 ∷ 0x20 ∷ 0x20 ∷ 0x42 ∷ [])) ((0 ∷ []) ∷ (3 ∷ []) ∷ []) 2
   pub g :
       Makes 3 (0x02 ∷ 0x58 ∷ 0x02 ∷ 0x20 ∷ 0x02 ∷ 0x41 ∷ 0x06 ∷ 0x01 ∷ 0x00 ∷ 0x02 ∷ 0x42 ∷ [])
-      ((0 ∷ 1 ∷ 2 ∷ []) ∷ (3 ∷ []) ∷ [])
-  pub g-without : Makes 3 (lettersBytes (0x58 ∷ 0x20 ∷ 0x41 ∷ 0x42 ∷ [])) ((0 ∷ []) ∷ (2 ∷ 3 ∷ []) ∷ [])
+      ((0 ∷ 1 ∷ 2 ∷ []) ∷ (3 ∷ []) ∷ []) 3
+  pub g-without : Makes 3 (lettersBytes (0x58 ∷ 0x20 ∷ 0x41 ∷ 0x42 ∷ [])) ((0 ∷ []) ∷ (2 ∷ 3 ∷ []) ∷ []) 3
   pub h : (blendByte 200 128 100 ≡ 150) × (blendAlpha 128 255 ≡ 255)
   -- a column of 8 pixels on a picture of 5
   pub i : (plainStart (settings 5 0 0 0 0) 8 ≡ negsuc 0) × (lineStart (settings 5 0 0 0 0) 8 ≡ origin - 1)
@@ -94,6 +96,22 @@ pub record Document01 : Type 0 where
   pub k-0c : Refuses (columns 4) 0 (0x0c ∷ []) 1 0
   pub l : Total 0 AB 2 × Total 1 AB 18 × Total 2 AB 34 × Total 9 AB 34
 
+-- letters without ink
+pub record BareCases : Type 0 where
+  -- a control between letters; a space; a tab; a bold space; a no-break space, and a soft hyphen
+  pub control : Total 0 (lettersBytes (0x41 ∷ 0x01 ∷ 0x42 ∷ [])) 2 × Total 1 (lettersBytes (0x41 ∷ 0x01 ∷ 0x42 ∷ [])) 18
+  pub space : Total 1 (lettersBytes (0x41 ∷ 0x20 ∷ 0x42 ∷ [])) 18
+  pub tab : Total 2 (lettersBytes (0x41 ∷ 0x09 ∷ [])) 17
+  pub bold-space : Total 1 (0x02 ∷ 0x41 ∷ 0x06 ∷ 0x02 ∷ 0x20 ∷ 0x00 ∷ 0x02 ∷ 0x42 ∷ []) 18
+  pub latin-1 : Total 1 (lettersBytes (0x41 ∷ 0xa0 ∷ 0xad ∷ 0xa1 ∷ [])) 18
+  -- a line of such letters alone has no strokes
+  pub none : Wrap.Makes 4 (lettersBytes (0xa0 ∷ 0xad ∷ [])) ((0 ∷ 1 ∷ []) ∷ []) × Total 2 (lettersBytes (0xa0 ∷ 0xad ∷ [])) 0
+  -- the box has ink
+  pub box : Total 0 (0x03 ∷ 0x01 ∷ 0x00 ∷ []) 1
+  -- each has a cell of its own
+  pub cells :
+      Strokes (λ t. t .x - origin) (settings 48 0 0 0 1) 0 (lettersBytes (0x41 ∷ 0x01 ∷ 0x42 ∷ 0x20 ∷ 0xad ∷ 0x43 ∷ [])) (8 ∷ 24 ∷ 48 ∷ [])
+
 -- some more
 pub record Cases : Type 0 where
   -- the order: each letter's outline and then the letter
@@ -105,9 +123,6 @@ pub record Cases : Type 0 where
       displacements 2
       ≡ (0, 0) ∷ (1, 0) ∷ (2, 0) ∷ (3, 0) ∷ (4, 0) ∷ (0, 1) ∷ (4, 1) ∷ (0, 2) ∷ (4, 2) ∷ (0, 3) ∷ (4, 3)
       ∷ (0, 4) ∷ (1, 4) ∷ (2, 4) ∷ (3, 4) ∷ (4, 4) ∷ []
-  -- a control has a cell of its own
-  pub control-cell :
-      Strokes (λ t. t .x - origin) (settings 32 0 0 0 1) 0 (lettersBytes (0x41 ∷ 0x01 ∷ 0x42 ∷ [])) (8 ∷ 16 ∷ 24 ∷ [])
   -- a curly quote: in mode 0 the box, whose row 2 is 7E hexadecimal, and in mode 1 a quote, whose row 2 is 18, in bold 1C
   pub curly-quote :
       Strokes (λ t. getD (t .rows) 2 0) (settingsIn 0 16 0 0 0 1) 0 (0x03 ∷ 0x20 ∷ 0x19 ∷ []) (0x7e ∷ [])
@@ -141,7 +156,7 @@ pub record Cases : Type 0 where
       ≡ accepted (replicate 12 0 ++ (replicate 8 255 ++ replicate 12 0))
 
 pub document-01 : Document01
-unfolding wrapCall readCall cueCall tapeStrokes outOfRange drawing linesStrokes lineStrokes glyphStrokes displacements displacementRows displacementRow lineStart baseLine rowAfter strokesOn strokeRow paintColumns paintColumn blendPixel blendOver blendByte blendAlpha tabulate regularTable wrapRuns visibleCols logicalLines tokenise isSpaceToken chunks putChunks addOrBreak putToken putTokens fill withoutLast upFrom flatten tapeLetters tapeRuns read faultOf commandOf codePoint isLetter isOpener isScalar added mergeInto lettersOf sameStyle letterBytes
+unfolding hasInk wrapCall readCall cueCall tapeStrokes outOfRange drawing linesStrokes lineStrokes glyphStrokes displacements displacementRows displacementRow lineStart baseLine rowAfter strokesOn strokeRow paintColumns paintColumn blendPixel blendOver blendByte blendAlpha tabulate regularTable wrapRuns visibleCols logicalLines tokenise isSpaceToken chunks putChunks addOrBreak putToken putTokens fill withoutLast upFrom flatten tapeLetters tapeRuns read faultOf commandOf codePoint isLetter isOpener isScalar added mergeInto lettersOf sameStyle letterBytes
 document-01 =
     record {
       a = (refl, refl);
@@ -164,13 +179,26 @@ document-01 =
       l = (refl, refl, refl, refl);
     }
 
+pub bare-cases : BareCases
+unfolding hasInk boldTable wrapCall readCall cueCall tapeStrokes outOfRange drawing linesStrokes lineStrokes glyphStrokes displacements displacementRows displacementRow lineStart baseLine rowAfter strokesOn strokeRow paintColumns paintColumn blendPixel blendOver blendByte blendAlpha tabulate regularTable wrapRuns visibleCols logicalLines tokenise isSpaceToken chunks putChunks addOrBreak putToken putTokens fill withoutLast upFrom flatten tapeLetters tapeRuns read faultOf commandOf codePoint isLetter isOpener isScalar added mergeInto lettersOf sameStyle letterBytes
+bare-cases =
+    record {
+      control = (refl, refl);
+      space = refl;
+      tab = refl;
+      bold-space = refl;
+      latin-1 = refl;
+      none = (refl, refl);
+      box = refl;
+      cells = refl;
+    }
+
 pub cases : Cases
-unfolding replaced boldTable cueCall tapeStrokes outOfRange drawing linesStrokes lineStrokes glyphStrokes displacements displacementRows displacementRow lineStart baseLine rowAfter strokesOn strokeRow paintColumns paintColumn blendPixel blendOver blendByte blendAlpha tabulate regularTable wrapRuns visibleCols logicalLines tokenise isSpaceToken chunks putChunks addOrBreak putToken putTokens fill withoutLast upFrom flatten tapeLetters tapeRuns read faultOf commandOf codePoint isLetter isOpener isScalar added mergeInto lettersOf sameStyle letterBytes
+unfolding hasInk replaced boldTable cueCall tapeStrokes outOfRange drawing linesStrokes lineStrokes glyphStrokes displacements displacementRows displacementRow lineStart baseLine rowAfter strokesOn strokeRow paintColumns paintColumn blendPixel blendOver blendByte blendAlpha tabulate regularTable wrapRuns visibleCols logicalLines tokenise isSpaceToken chunks putChunks addOrBreak putToken putTokens fill withoutLast upFrom flatten tapeLetters tapeRuns read faultOf commandOf codePoint isLetter isOpener isScalar added mergeInto lettersOf sameStyle letterBytes
 cases =
     record {
       order = refl;
       outline-2 = refl;
-      control-cell = refl;
       curly-quote = (refl, refl, refl);
       base-lines = refl;
       stops = (refl, refl, refl);

@@ -10,17 +10,18 @@ use borrow.Author.Tests.{leb-true}
 use lib.Dec.{eqb, leb}
 use lib.ListN.{length, take}
 use Rattle.font.specs.Font.{cellW}
+use Rattle.font.specs.Ink.{hasInk}
 use Rattle.font.specs.Paint.{origin}
 use Rattle.font.proofs.Rows.{rows-kept, stroke-above, stroke-below}
 use Rattle.tape.specs.Runs.{Letter}
 use Rattle.wrap.specs.Laid.{lettersOn, columnsOn}
 use Rattle.compositor.specs.declared.Settings.{Settings}
 use Rattle.font.specs.declared.paint.Rows.{Rows}
-use Rattle.font.proofs.EveryEntry.{All, all-weaker, all-append, all-take, all-drop}
+use Rattle.font.proofs.EveryEntry.{All, all-weaker, all-append, all-if, all-take, all-drop}
 use Rattle.compositor.specs.declared.strokes.Window.{Window}
 use Rattle.compositor.specs.Layout.{lineHeight, baseLine, lineWidth, lineStart}
 use Rattle.compositor.specs.Outline.{atDistance, outlineOf, displacementRow, displacementRows, displacements}
-use Rattle.compositor.specs.Order.{Stroke, stroke, outlineStrokes, glyphStrokes, letterStrokes, lineStrokes}
+use Rattle.compositor.specs.Order.{Stroke, stroke, outlineStrokes, glyphStrokes, letterRows, letterGlyph, letterStrokes, lineStrokes}
 use Rattle.compositor.specs.Picture.{strokeOn, strokesOn}
 use Rattle.compositor.specs.Read.{lettersAt, strokesAt}
 use Rattle.compositor.specs.Painting.{cut, after, offRows, Painted}
@@ -80,7 +81,7 @@ module _ (s : Settings) where
   line-around x y [] = tt
   line-around x y (l ∷ ls) =
       all-append (Within y y (outlineOf s)) (letterStrokes s l x y) (lineStrokes s (x + cellW) y ls)
-      (glyph-around y (outlineOf s) _ _ _ x _) (line-around (x + cellW) y ls)
+      (all-if (Within y y (outlineOf s)) (hasInk (letterRows s l)) (letterGlyph s l x y) (glyph-around y (outlineOf s) _ _ _ x _)) (line-around (x + cellW) y ls)
 
   -- a line with more lines below it stands higher
   base-higher : (a b : ℕ) → a ≤ b → baseLine s b ≤ baseLine s a

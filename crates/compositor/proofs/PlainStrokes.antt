@@ -11,12 +11,13 @@ use lib.Dec.{eqb, leb}
 use lib.ListN.{length, getD}
 use lib.IntN.{ℤ, pos, subℕ, _+ℤ_, _-ℤ_}
 use Rattle.font.specs.Font.{cellW, cellH, bearingY, tabulate}
+use Rattle.font.specs.Ink.{hasInk}
 use Rattle.font.specs.Slant.{rowOffsets}
 use Rattle.font.specs.Paint.{origin, lit, paintColumn, paintColumns, strokeRow}
 use Rattle.font.proofs.EveryEntry.{each}
 use Rattle.font.proofs.Columns.{column-left}
 use Rattle.font.proofs.Rows.{stroke-on, stroke-above, stroke-below}
-use Rattle.font.proofs.EveryEntry.{All, all-append}
+use Rattle.font.proofs.EveryEntry.{All, all-append, all-if}
 use Rattle.tape.specs.Command.{mostLetters}
 use Rattle.tape.specs.Runs.{Letter}
 use Rattle.wrap.specs.Lines.{Line, letterOf, visibleCols, wrapRuns}
@@ -24,7 +25,7 @@ use Rattle.wrap.proofs.Narrow.{narrow}
 use Rattle.wrap.proofs.FewLines.{few-lines}
 use Rattle.compositor.specs.declared.Settings.{Settings}
 use Rattle.compositor.specs.Layout.{columnLimit, lineHeight, baseLine, lineWidth, sideMargin, lineStart}
-use Rattle.compositor.specs.Order.{Stroke, outlineStrokes, glyphStrokes, letterStrokes, lineStrokes, linesStrokes, drawing}
+use Rattle.compositor.specs.Order.{Stroke, outlineStrokes, glyphStrokes, letterRows, letterGlyph, letterStrokes, lineStrokes, linesStrokes, drawing}
 use Rattle.compositor.specs.Picture.{strokeOn}
 use Rattle.compositor.specs.Ready.{InRange, mostLines}
 use Rattle.compositor.specs.Outline.{mostOutline, outlineOf, displacementRow, displacementRows, displacements}
@@ -145,9 +146,10 @@ module _ (s : Settings) where
   placed-letter : (l : Letter) (x base : ℕ) → 16 ≤ x → 16 ≤ base → All Placed (letterStrokes s l x base)
   unfolding glyphStrokes
   placed-letter l x base h j =
-      all-append Placed (outlineStrokes _ _ _ (outlineOf s) x base (displacements (outlineOf s))) _
+      all-if Placed (hasInk (letterRows s l)) (letterGlyph s l x base)
+      (all-append Placed (outlineStrokes _ _ _ (outlineOf s) x base (displacements (outlineOf s))) _
       (placed-outline _ (l .style .italic) _ (outlineOf s) x base h j (omega arith) (displacements (outlineOf s)))
-      (record { italic = l .style .italic; slants = refl; wide = omega arith; high = omega arith }, tt)
+      (record { italic = l .style .italic; slants = refl; wide = omega arith; high = omega arith }, tt))
 
   placed-line : (ls : List Letter) (x base : ℕ) → 16 ≤ x → 16 ≤ base → All Placed (lineStrokes s x base ls)
   unfolding lineStrokes
@@ -170,7 +172,7 @@ module _ (s : Settings) where
     unfolding baseLine
     base-far below h =
         let tall : lineHeight s ≤ 1024 = let l = range .lines in omega arith in
-        let rise : below * lineHeight s ≤ 4097 * 1024 = mul-le-mul h tall in
+        let rise : below * lineHeight s ≤ mostLines * 1024 = mul-le-mul h tall in
         omega arith
 
     placed-lines : (lines : List Line) → length lines ≤ mostLines → ((i : ℕ) → visibleCols ls (getD lines i []) ≤ columnLimit s)

@@ -1,16 +1,19 @@
 -- The lines that lie in the workspace, read back, are those that the letters make.
 use mathlib.Core.Path.{_≡_, _∙_, refl, sym, ap}
-use mathlib.Core.List.{List, [], _∷_, _++_, map, flatten, append-assoc}
+use mathlib.Core.List.{List, [], _∷_, _++_, map, flatten, append-assoc, append-nil}
 use Prim.Native.Nat.{ℕ, suc, _+_, _*_, _≤_, _<_}
+use native.Mathlib.Nat.{zero-add}
 use native.Mathlib.Omega.{arith}
-use lib.ListN.{length, getD, length-append}
-use lib.Seq.{getD-at}
+use lib.ListN.{length, getD, take, drop, length-append, take-append-drop}
+use lib.Seq.{getD-at, length-take-le}
 use Rattle.tape.specs.Command.{mostLetters}
 use Rattle.tape.specs.Runs.{Letter}
 use Rattle.tape.specs.Stored.{letterAt}
 use Rattle.tape.specs.Tape.{leastRoom}
 use Rattle.wrap.specs.Lines.{Line, letterOf, visibleCols}
-use Rattle.wrap.specs.Laid.{numbersFrom, tableFrom, twoAt, numberAt, lettersOn, columnsOn, Holds, HoldsLines}
+use Rattle.wrap.specs.Laid.{numbersFrom, tableFrom, inkedFrom, twoAt, numberAt, lettersOn, columnsOn, inkedThrough, inkedIn, inkedTotals, Holds, HoldsLines}
+use Rattle.wrap.specs.Shown.{inkedLetters}
+use Rattle.wrap.proofs.InkCounts.{length-totals, totals-at}
 use Rattle.wrap.proofs.Lists.{flatten-append}
 use Rattle.wrap.proofs.TableBytes.{twos-at, table-at, part-two}
 use Rattle.compositor.specs.declared.Settings.{Settings}
@@ -113,12 +116,13 @@ module _ (ls : List Letter) (r : List Line) (ws : List ℕ) (holds : Holds ls ws
         rest,
       )
 
-  sum-back : (front back : List Line) → r ≡ front ++ back → lettersFrom ws (length front) (length back) ≡ length (flatten back)
+  -- how many letters are on the lines `some` behind those of `front`
+  sum-back : (front some back : List Line) → r ≡ front ++ (some ++ back) → lettersFrom ws (length front) (length some) ≡ length (flatten some)
   unfolding lettersFrom flatten
-  sum-back front [] e = refl
-  sum-back front (l ∷ back) e =
-      let rest = sum-back (front ++ (l ∷ [])) back (after-it front l back e) in
-      rw (on-line front l back e, next-line front l back e, rest) (sym (length-append l (flatten back)))
+  sum-back front [] back e = refl
+  sum-back front (l ∷ some) back e =
+      let rest = sum-back (front ++ (l ∷ [])) some back (after-it front l (some ++ back) e) in
+      rw (on-line front l (some ++ back) e, next-line front l (some ++ back) e, rest) (sym (length-append l (flatten some)))
 
   -- all of them
   pub strokes-back : (s : Settings) → strokesAt s ws 0 0 (length r) ≡ linesStrokes s ls r
@@ -126,4 +130,22 @@ module _ (ls : List Letter) (r : List Line) (ws : List ℕ) (holds : Holds ls ws
   strokes-back s = lines-back s [] r refl
 
   pub letters-back-all : lettersFrom ws 0 (length r) ≡ length (flatten r)
-  letters-back-all = sum-back [] r refl
+  letters-back-all = sum-back [] r [] (sym (append-nil r))
+
+  -- ---- the totals of letters with ink
+
+  pub totals-back : (i : ℕ) → i < length r → inkedThrough ws i ≡ inkedLetters (lettersAt ws 0 (lettersFrom ws 0 (suc i)))
+  totals-back i h =
+      let some : List Line = take (suc i) r in
+      let back : List Line = drop (suc i) r in
+      let all : r ≡ some ++ back = sym (take-append-drop (suc i) r) in
+      let n : lettersFrom ws 0 (suc i) ≡ length (flatten some) =
+      ap (lettersFrom ws 0) (sym (length-take-le (suc i) r h)) ∙ sum-back [] some back all in
+      sym (part-two ws inkedFrom (2 * length r) (2 * i) (omega arith))
+      ∙ ap (λ (l : List ℕ). twoAt l (2 * i)) (lines .inked)
+      ∙ twos-at (inkedTotals ls 0 r) i (omega (arith, length-totals ls 0 r))
+      ∙ totals-at ls 0 r i h
+      ∙ zero-add (inkedIn ls (flatten some))
+      ∙ ap inkedLetters
+      (sym (letters-back [] (flatten some) (flatten back) (ap flatten all ∙ flatten-append some back))
+      ∙ ap (lettersAt ws 0) (sym n))

@@ -1,7 +1,7 @@
 -- Letters that were wrapped: their lines can be read, and drawn they are the drawing.
 use mathlib.Core.Path.{_≡_, _∙_, sym, ap, ap₂, subst}
 use mathlib.Core.List.{List, flatten}
-use Prim.Native.Nat.{ℕ, _+_, _*_, _≤_}
+use Prim.Native.Nat.{ℕ, suc, _+_, _*_, _≤_, _<_}
 use native.Mathlib.Nat.{mul-le-mul}
 use native.Mathlib.Omega.{arith}
 use lib.ListN.{length}
@@ -11,20 +11,22 @@ use Rattle.tape.specs.Runs.{Letter}
 use Rattle.tape.specs.Tape.{leastRoom}
 use Rattle.wrap.specs.declared.Lines.{Lines}
 use Rattle.wrap.specs.Lines.{Line, wrapRuns}
-use Rattle.wrap.specs.Laid.{Laid}
+use Rattle.wrap.specs.Shown.{inkedLetters}
+use Rattle.wrap.specs.Laid.{inkedThrough, Laid}
+use Rattle.wrap.proofs.AllInked.{all-inked}
 use Rattle.wrap.proofs.EachLetterOnce.{known}
 use Rattle.compositor.specs.declared.Settings.{Settings}
 use Rattle.compositor.specs.Layout.{columnLimit}
 use Rattle.compositor.specs.Outline.{mostOutline, outlineOf}
 use Rattle.compositor.specs.Order.{Stroke, linesStrokes, drawing}
-use Rattle.compositor.specs.Read.{lettersFrom, strokesAt, strokesIn, Readable}
+use Rattle.compositor.specs.Read.{lettersAt, lettersFrom, strokesAt, strokesIn, Readable}
 use Rattle.compositor.specs.Ready.{mostLines, mostStrokes, CueLaid}
-use Rattle.compositor.proofs.WorkspaceHolds.{readable, strokes-back, letters-back-all}
+use Rattle.compositor.proofs.WorkspaceHolds.{readable, totals-back, strokes-back, letters-back-all}
 use Rattle.compositor.proofs.Total.{total}
 
 -- T is small
-pub total-small : (letters o : ℕ) → letters ≤ mostLetters → o ≤ mostOutline → letters * (1 + 8 * o) ≤ mostStrokes
-total-small letters o h k = mul-le-mul h (let each : 1 + 8 * o ≤ 1 + 8 * mostOutline = omega arith in each)
+pub total-small : (inked o : ℕ) → inked ≤ mostLetters → o ≤ mostOutline → inked * (1 + 8 * o) ≤ mostStrokes
+total-small inked o h k = mul-le-mul h (let each : 1 + 8 * o ≤ 1 + 8 * mostOutline = omega arith in each)
 
 module _ {ls : List Letter} {limit : ℕ} {made : Lines} {ws : List ℕ} (laid : Laid ls limit made ws) where
   abbrev r : List Line
@@ -37,6 +39,9 @@ module _ {ls : List Letter} {limit : ℕ} {made : Lines} {ws : List ℕ} (laid :
       sym (ap (lettersFrom ws 0) (laid .count) ∙ letters-back-all ls r ws (laid .letters) (laid .lines) (known ls limit)) in
       subst (Readable ws) e (readable ls r ws (laid .letters) (laid .lines) (known ls limit) room n)
 
+  totals-read : (i : ℕ) → i < made .lines → inkedThrough ws i ≡ inkedLetters (lettersAt ws 0 (lettersFrom ws 0 (suc i)))
+  totals-read i h = totals-back ls r ws (laid .letters) (laid .lines) (known ls limit) i (rw (laid .count) at h)
+
   module _ (s : Settings) (limit-is : limit ≡ columnLimit s) where
     pub strokes-are : strokesIn s ws (made .lines) ≡ drawing s ls
     unfolding drawing strokesIn
@@ -45,16 +50,16 @@ module _ {ls : List Letter} {limit : ℕ} {made : Lines} {ws : List ℕ} (laid :
         ∙ strokes-back ls r ws (laid .letters) (laid .lines) (known ls limit) s
         ∙ ap (λ (L : ℕ). linesStrokes s ls (wrapRuns ls L)) limit-is
 
-    -- they can be drawn, where a letter has so many strokes
+    -- they can be drawn, where a letter with ink has so many strokes
     pub cue-laid : (o : Outcome (List Stroke)) → o ≡ accepted (drawing s ls) → (each : ℕ) → each ≡ 1 + 8 * outlineOf s → leastRoom ≤ length ws
-        → made .letters ≤ mostLetters → made .lines ≤ mostLines → CueLaid s o ws (made .lines) (made .letters * each)
-    cue-laid o means each e room few-letters few =
+        → made .letters ≤ mostLetters → made .inked ≤ mostLetters → made .lines ≤ mostLines → CueLaid s o ws (made .lines) (made .inked * each)
+    cue-laid o means each e room few-letters few-inked few =
         record {
-          lined = record { readable = lines-readable room few-letters; few = few };
+          lined = record { readable = lines-readable room few-letters; few = few; inked = totals-read };
           means = means ∙ ap accepted (sym strokes-are);
           counts =
-              ap₂ (λ (n m : ℕ). n * m) (laid .onLines ∙ ap (λ (L : ℕ). length (flatten (wrapRuns ls L))) limit-is) e
+              ap₂ (λ (n m : ℕ). n * m) (laid .withInk ∙ all-inked ls limit) e
               ∙ sym (total s ls)
               ∙ ap length (sym strokes-are);
-          few = rw e (total-small (made .letters) (outlineOf s) few-letters (omega arith));
+          few = rw e (total-small (made .inked) (outlineOf s) few-inked (omega arith));
         }

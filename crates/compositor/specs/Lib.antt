@@ -9,6 +9,7 @@ pub mod Draw
 pub mod Drawn
 pub mod Plain
 pub mod Replaced
+pub mod Inkless
 pub mod Read
 pub mod Painting
 pub mod Ready

@@ -1,10 +1,13 @@
--- THE ONE DRAWING ORDER: document 01, "Places and strokes", second paragraph. Definitions only.
--- A caption's strokes are one list: line after line from the top, letter after letter, and of each letter its outline's
--- strokes and then its own.
+-- THE ONE DRAWING ORDER: document 01, "Places and strokes", second paragraph, and document 02, S-6. Definitions only.
+-- A caption's strokes are one list: line after line from the top, letter after letter, and of each letter with ink its
+-- outline's strokes and then its own. Strokes are counted along this list, so that a row's history is measured in inked
+-- strokes: a space, or any other letter whose glyph has no ink, takes its cell and has none.
+use mathlib.Core.Bool.{cond}
 use mathlib.Core.List.{List, [], _∷_, _++_, map}
 use Prim.Native.Nat.{ℕ, _+_, _-_}
 use lib.ListN.{length}
 use Rattle.font.specs.Font.{cellW, tableOf, glyphRows}
+use Rattle.font.specs.Ink.{hasInk}
 use Rattle.font.specs.Slant.{rowOffsets}
 use Rattle.tape.specs.declared.Style.{Style}
 use Rattle.tape.specs.Runs.{Letter}
@@ -39,13 +42,21 @@ abbrev pub colorOf : Style → List ℕ
 colorOf t = t .red ∷ t .green ∷ t .blue ∷ t .alpha ∷ []
 
 module _ (s : Settings) where
-  -- a letter's strokes
-  abbrev pub letterStrokes : Letter → ℕ → ℕ → List Stroke
-  letterStrokes l x base =
-      let t = l .style in
-      glyphStrokes (glyphRows (tableOf (t .bold)) (s .«glyph_mode») (l .code)) (rowOffsets (t .italic)) (s .«outline_color») (colorOf t) (outlineOf s) x base
+  -- the sixteen rows of a letter's glyph
+  abbrev pub letterRows : Letter → List ℕ
+  letterRows l = glyphRows (tableOf (l .style .bold)) (s .«glyph_mode») (l .code)
 
-  -- the strokes of letters on a line, the first at position x: each advances cellW, controls too
+  -- the strokes that its glyph has, with ink or without
+  abbrev pub letterGlyph : Letter → ℕ → ℕ → List Stroke
+  letterGlyph l x base =
+      let t = l .style in
+      glyphStrokes (letterRows l) (rowOffsets (t .italic)) (s .«outline_color») (colorOf t) (outlineOf s) x base
+
+  -- a letter's strokes: none, where its glyph has no ink
+  abbrev pub letterStrokes : Letter → ℕ → ℕ → List Stroke
+  letterStrokes l x base = cond (hasInk (letterRows l)) (letterGlyph l x base) []
+
+  -- the strokes of letters on a line, the first at position x: each advances cellW, with ink or without
   unfoldable pub lineStrokes : ℕ → ℕ → List Letter → List Stroke
   lineStrokes x base [] = []
   lineStrokes x base (l ∷ ls) = letterStrokes l x base ++ lineStrokes (x + cellW) base ls
@@ -57,6 +68,6 @@ module _ (s : Settings) where
       lineStrokes (lineStart s (lineWidth (visibleCols ls line))) (baseLine s (length lower)) (map (letterOf ls) line)
       ++ linesStrokes ls lower
 
-  -- the strokes of a caption's letters; T is how many they are
+  -- the strokes of a caption's letters; T is how many they are, which is the letters with ink times 1 + 8o
   unfoldable pub drawing : List Letter → List Stroke
   drawing ls = linesStrokes ls (wrapRuns ls (columnLimit s))

@@ -3,14 +3,15 @@
 use mathlib.Core.Path.{_≡_}
 use mathlib.Core.Bool.{true}
 use mathlib.Core.List.{List}
-use Prim.Native.Nat.{ℕ, _+_, _*_, _≤_}
+use Prim.Native.Nat.{ℕ, suc, _+_, _*_, _≤_, _<_}
 use lib.ListN.{length}
 use Rattle.tape.specs.Outcome.{Outcome, accepted, refused, unless}
 use Rattle.tape.specs.Call.{keepsWorkspace}
 use Rattle.tape.specs.Command.{mostLetters}
 use Rattle.tape.specs.Tape.{mostBytes, leastRoom}
 use Rattle.font.specs.Font.{cellW}
-use Rattle.wrap.specs.Laid.{twoByteNumbers}
+use Rattle.wrap.specs.Shown.{inkedLetters}
+use Rattle.wrap.specs.Laid.{twoByteNumbers, inkedThrough}
 pub use Rattle.wrap.specs.Laid.{mostLines}
 use Rattle.compositor.specs.declared.Settings.{Settings}
 use Rattle.compositor.specs.declared.Cue.{Cue}
@@ -18,7 +19,7 @@ use Rattle.compositor.specs.Settings.{mostPixels, mostLineHeight, pictur
 use Rattle.compositor.specs.Outline.{mostOutline}
 use Rattle.compositor.specs.Order.{Stroke}
 use Rattle.compositor.specs.Draw.{Tapes, tapeStrokes, cueCall}
-use Rattle.compositor.specs.Read.{lettersFrom, strokesIn, Readable}
+use Rattle.compositor.specs.Read.{lettersAt, lettersFrom, strokesIn, Readable}
 
 -- ---- what is checked before a tape is read
 
@@ -63,10 +64,11 @@ leastStart = 0x10_0000
 abbrev pub mostStrokes : ℕ
 mostStrokes = mostLetters * (1 + 8 * mostOutline)
 
--- its lines can be read
+-- its lines can be read, and with each how many letters with ink there are up to its end
 pub record Lined (ws : List ℕ) (lines : ℕ) : Type 0 where
   pub readable : Readable ws (lettersFrom ws 0 lines)
   pub few : lines ≤ mostLines
+  pub inked : (i : ℕ) → i < lines → inkedThrough ws i ≡ inkedLetters (lettersAt ws 0 (lettersFrom ws 0 (suc i)))
 
 -- a call that comes to the outcome o has laid its caption: so many lines, with the strokes ts, so many
 pub record CueLaid (s : Settings) (o : Outcome (List Stroke)) (ws' : List ℕ) (lines total : ℕ) : Type 0 where

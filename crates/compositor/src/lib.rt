@@ -81,7 +81,7 @@ impl Settings {
         MOST_OUTLINE as usize
     }
 
-    // The strokes of a letter: its outline's, and its own.
+    // The strokes of a letter with ink: its outline's, and its own.
     fn letter_strokes(self) -> usize
         ensures { λ r. ⌜ (r ≡ 1 + 8 * outlineOf self) × (r ≤ 1 + 8 * mostOutline) ⌝ }
     {
@@ -126,7 +126,7 @@ fn lay_cue(s: Settings, tape: &[u8], ws: &mut [u8]) -> Cue
     match tape::read_tape(tape, ws, Style::default_with(color)) {
         Answer::Accepted(count) => {
             let made = wrap::wrap_runs(ws, count, layout::column_limit(s));
-            Cue::Laid(made.lines, made.letters * s.letter_strokes())
+            Cue::Laid(made.lines, made.inked * s.letter_strokes())
         }
         Answer::Refused(number, place) => Cue::Refused(number, place),
     }

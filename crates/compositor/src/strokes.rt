@@ -7,15 +7,16 @@ ghost use lib.ListN.{length};
 ghost use Rattle.font.specs.Font.{glyphRows};
 ghost use Rattle.font.specs.Slant.{rowOffsets};
 ghost use Rattle.font.specs.Paint.{origin};
-ghost use Rattle.font.specs.Shear.{Inked};
+ghost use Rattle.font.specs.Shear.{Prepared};
 ghost use Rattle.font.specs.Lent.{mostLent, Lent, Reachable};
 ghost use Rattle.tape.specs.Stored.{letterAt};
+ghost use Rattle.wrap.specs.Shown.{inkedLetters};
 ghost use Rattle.wrap.specs.Laid.{columnsOn};
 ghost use Rattle.compositor.specs.Settings.{mostPixels};
 ghost use Rattle.compositor.specs.Layout.{lineWidth, lineStart};
 ghost use Rattle.compositor.specs.Outline.{mostOutline, distance, atDistance, displacementRow, displacements};
 ghost use Rattle.compositor.specs.Order.{letterStrokes, lineStrokes};
-ghost use Rattle.compositor.specs.Read.{lettersAt, lettersFrom, strokesAt, strokesIn, Readable};
+ghost use Rattle.compositor.specs.Read.{lettersAt, strokesAt, strokesIn, Readable};
 ghost use Rattle.compositor.specs.Painting.{Near, Fonts, strokeOf, strokesOf, cut, misses, after, offRows, painted, Painted};
 ghost use Rattle.compositor.specs.Ready.{mostLines, InRange, Lined};
 use crate::Settings;
@@ -29,10 +30,11 @@ use font::Spot;
 use tape::letter;
 use wrap::laid;
 
-// Letters on lines: so many, from the `first` on.
+// Letters on lines: so many, from the `first` on, of which so many have ink.
 struct Span {
     first: usize,
     letters: usize,
+    inked: usize,
 }
 
 // Which strokes are drawn: those from number `from` up to number `to`, counted from the first of
@@ -76,7 +78,7 @@ fn draw_stroke(
     pen: Pen,
     window: Window,
 ) -> Window
-    requires { ⌜ Lent (length (now part)) rows × Reachable at × Inked key pen (now glyph) (now offsets) ⌝ }
+    requires { ⌜ Lent (length (now part)) rows × Reachable at × Prepared key pen (now glyph) (now offsets) ⌝ }
     ensures { λ r. ⌜ Painted rows (strokeOf key pen at ∷ []) window (now (part .entry)) (now (part .exit)) r ⌝ }
 {
     if window.misses(1) {
@@ -115,7 +117,7 @@ fn draw_displaced(
     dy: usize,
     window: Window,
 ) -> Window
-    requires { ⌜ Lent (length (now part)) rows × Near at × Inked key pen (now glyph) (now offsets)
+    requires { ⌜ Lent (length (now part)) rows × Near at × Prepared key pen (now glyph) (now offsets)
         × (o ≤ mostOutline) × (dx ≤ 2 * o) × (dy ≤ 2 * o) ⌝ }
     ensures { λ r. ⌜ Painted rows (strokesOf key pen o at (displacementRow o dy dx 1))
         window (now (part .entry)) (now (part .exit)) r ⌝ }
@@ -142,7 +144,7 @@ fn draw_outline_row(
     dy: usize,
     window: Window,
 ) -> Window
-    requires { ⌜ Lent (length (now part)) rows × Near at × Inked key pen (now glyph) (now offsets)
+    requires { ⌜ Lent (length (now part)) rows × Near at × Prepared key pen (now glyph) (now offsets)
         × (o ≤ mostOutline) × (dy ≤ 2 * o) ⌝ }
     ensures { λ r. ⌜ Painted rows (strokesOf key pen o at (displacementRow o dy 0 (2 * o + 1)))
         window (now (part .entry)) (now (part .exit)) r ⌝ }
@@ -168,7 +170,7 @@ fn draw_outline(
     o: usize,
     window: Window,
 ) -> Window
-    requires { ⌜ Lent (length (now part)) rows × Near at × Inked key pen (now glyph) (now offsets) × (o ≤ mostOutline) ⌝ }
+    requires { ⌜ Lent (length (now part)) rows × Near at × Prepared key pen (now glyph) (now offsets) × (o ≤ mostOutline) ⌝ }
     ensures { λ r. ⌜ Painted rows (strokesOf key pen o at (displacements o)) window (now (part .entry)) (now (part .exit)) r ⌝ }
 {
     if o == 0 {
@@ -200,8 +202,7 @@ fn offsets_of(slanted: &[u8; 16], italic: bool) -> [u8; 16]
     if italic { *slanted } else { [8; 16] }
 }
 
-// Draws a letter of the workspace: its outline, and then itself. Where the window has none of its
-// strokes the letter is not looked at.
+// Draws a letter of the workspace: its outline, and then itself. One without ink has no strokes.
 fn draw_letter(
     part: &mut [u8],
     rows: Rows,
@@ -219,13 +220,17 @@ fn draw_letter(
     ensures { λ r. ⌜ Painted rows (letterStrokes s (letterAt (now (ws .entry)) number) (at .x) (at .base))
         window (now (part .entry)) (now (part .exit)) r ⌝ }
 {
+    let code = letter::code(ws, number);
+    if !font::has_ink(code) {
+        return window;
+    }
     let strokes = s.letter_strokes();
     if window.misses(strokes) {
         return window.past(strokes);
     }
     let key = GlyphKey {
         mode: s.glyph_mode,
-        code: letter::code(ws, number),
+        code,
     };
     let style = letter::style(ws, number);
     let around = s.outline_color;
@@ -291,7 +296,8 @@ fn is_off(rows: Rows, high: usize, low: usize, o: usize) -> bool
 }
 
 // Draws a line of the workspace's table, the letters of a span, its base line at position y. Where it
-// misses the lent rows, or the window has none of its strokes, no letter is looked at.
+// misses the lent rows, or the window has none of its strokes, no letter is looked at: it is passed by
+// with the strokes of its letters with ink.
 fn place_line(
     part: &mut [u8],
     rows: Rows,
@@ -306,13 +312,14 @@ fn place_line(
     window: Window,
 ) -> Window
     requires { ⌜ Lent (length (now part)) rows × Fonts (now regular) (now bold) (now slanted)
-        × Readable (now ws) (span .first + span .letters) × InRange s × (line < mostLines) × (32 ≤ y) × (y + 16 < 2 * origin) ⌝ }
+        × Readable (now ws) (span .first + span .letters) × (span .inked ≡ inkedLetters (lettersAt (now ws) (span .first) (span .letters)))
+        × InRange s × (line < mostLines) × (32 ≤ y) × (y + 16 < 2 * origin) ⌝ }
     ensures { λ r. ⌜ Painted rows
         (lineStrokes s (lineStart s (lineWidth (columnsOn (now (ws .entry)) line))) y
         (lettersAt (now (ws .entry)) (span .first) (span .letters)))
         window (now (part .entry)) (now (part .exit)) r ⌝ }
 {
-    let strokes = span.letters * s.letter_strokes();
+    let strokes = span.inked * s.letter_strokes();
     if is_off(rows, y, y, s.outline()) {
         return window.past(strokes);
     }
@@ -339,18 +346,25 @@ fn draw_each_line(
     window: Window,
 )
     requires { ⌜ Lent (length (now part)) rows × Fonts (now regular) (now bold) (now slanted)
-        × Readable (now ws) (lettersFrom (now ws) 0 lines) × InRange s × (lines ≤ mostLines) ⌝ }
+        × Lined (now ws) lines × InRange s ⌝ }
     ensures { λ _. ⌜ now (part .exit) ≡ painted rows (cut window (strokesAt s (now (ws .entry)) 0 0 lines)) (now (part .entry)) ⌝ }
 {
     let mut left = window;
     let mut first = 0;
+    let mut before = 0;
     let mut i = 0;
     while i < lines {
         let letters = laid::letters_on(ws, i);
-        let span = Span { first, letters };
+        let through = laid::inked_through(ws, i);
+        let span = Span {
+            first,
+            letters,
+            inked: through - before,
+        };
         let y = layout::baseline(s, lines - 1 - i);
         left = place_line(part, rows, regular, bold, slanted, ws, i, span, s, y, left);
         first += letters;
+        before = through;
         i += 1;
     }
 }

@@ -1,5 +1,5 @@
 -- Cases by computation. Of S-2: the pixels that a comma meets, and a quote that leans, in order. Of S-3: what is drawn
--- for code points in each mode.
+-- for code points in each mode. Of S-6: which of them have ink.
 use mathlib.Core.Path.{_≡_, refl}
 use mathlib.Core.Bool.{Bool, true, false}
 use mathlib.Core.List.{List, [], _∷_, _++_, map}
@@ -7,6 +7,7 @@ use Prim.Native.Nat.{ℕ, _+_, _-_}
 use lib.ListN.{replicate}
 use Rattle.font.specs.Modes.{replaced, drawnCode}
 use Rattle.font.specs.Font.{tabulate, regularTable, boldTable, missingRows, glyphRows}
+use Rattle.font.specs.Ink.{hasInk, isInked}
 use Rattle.font.specs.Blend.{blendByte, blendAlpha, blendOver, blendPixel}
 use Rattle.font.specs.Slant.{rowOffsets}
 use Rattle.font.specs.Paint.{origin, paintColumn, paintColumns, strokeRow}
@@ -99,3 +100,35 @@ mode-cases =
       box-in-0 = refl;
       box-in-1 = refl;
     }
+
+-- ---- ink
+
+-- at both ends of each range of code points without ink, and beside them, in both fonts and modes
+abbrev bare : List ℕ
+bare = 0 ∷ 0x01 ∷ 0x09 ∷ 0x0a ∷ 0x20 ∷ 0x7f ∷ 0x9f ∷ 0xa0 ∷ 0xad ∷ []
+
+abbrev inked : List ℕ
+inked = 0x21 ∷ 0x7e ∷ 0xa1 ∷ 0xac ∷ 0xae ∷ 0xff ∷ 0x100 ∷ 0x2019 ∷ 0x10ffff ∷ []
+
+-- whether the glyphs of code points have ink
+abbrev inks : List ℕ → ℕ → List ℕ → List Bool
+inks table mode codes = map (λ c. hasInk (glyphRows table mode c)) codes
+
+-- by the rule, and by the glyphs
+abbrev InkOf : List ℕ → List Bool → Type 0
+InkOf codes ink =
+    (map isInked codes ≡ ink)
+    × (inks regularTable 0 codes ≡ ink)
+    × (inks regularTable 1 codes ≡ ink)
+    × (inks boldTable 0 codes ≡ ink)
+    × (inks boldTable 1 codes ≡ ink)
+
+pub record InkCases : Type 0 where
+  pub without : InkOf bare (replicate 9 false)
+  pub with : InkOf inked (replicate 9 true)
+  -- one lit pixel is ink
+  pub dot : hasInk (replicate 15 0 ++ (1 ∷ [])) ≡ true
+
+pub ink-cases : InkCases
+unfolding hasInk replaced tabulate regularTable boldTable
+ink-cases = record { without = (refl, refl, refl, refl, refl); with = (refl, refl, refl, refl, refl); dot = refl }

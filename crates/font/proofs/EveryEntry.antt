@@ -2,7 +2,7 @@
 -- below n.
 use mathlib.Core.Path.{_∙_, subst, sym}
 use mathlib.Core.Logic.{⊎-elim}
-use mathlib.Core.Bool.{Bool, true, _&&_}
+use mathlib.Core.Bool.{Bool, true, false, cond, _&&_}
 use mathlib.Core.List.{List, [], _∷_, _++_}
 use Prim.Native.Nat.{ℕ, zero, suc, _+_, _<_}
 use native.Mathlib.Nat.{add-zero, zero-add, add-suc, suc-add, le-of-suc-le-suc, not-suc-le-zero, eq-or-lt-of-le}
@@ -39,6 +39,11 @@ module _ {A : Type 0} where
     pub all-append : (xs ys : List A) → All P xs → All P ys → All P (xs ++ ys)
     all-append [] ys e f = f
     all-append (x ∷ xs) ys e f = (e .0, all-append xs ys (e .1) f)
+
+    -- where they stand, or none do
+    pub all-if : (b : Bool) (xs : List A) → All P xs → All P (cond b xs [])
+    all-if true xs e = e
+    all-if false xs e = tt
 
     pub all-take : (n : ℕ) (xs : List A) → All P xs → All P (take n xs)
     all-take zero xs e = tt

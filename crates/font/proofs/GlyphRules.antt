@@ -22,7 +22,7 @@ bold-rule i = List·getD-map embolden regularTable i 0
 
 -- ---- an accent replaces rows 0 and 1 of its letter, and no other
 
-abbrev rowOf : ℕ → ℕ → ℕ
+abbrev pub rowOf : ℕ → ℕ → ℕ
 rowOf g r = getD (rowsOf cellH g) r 0
 
 -- row r of a letter under an accent, where the letter alone has the row `bare`
@@ -77,7 +77,7 @@ table-row (g ∷ gs) (suc code) r h j =
 abbrev pub regularRow : ℕ → ℕ → ℕ
 regularRow code r = getD regularTable (code * cellH + r) 0
 
-regular-row : (code r : ℕ) → code < 256 → r < 16 → regularRow code r ≡ rowOf (getD glyphs code 0) r
+pub regular-row : (code r : ℕ) → code < 256 → r < 16 → regularRow code r ≡ rowOf (getD glyphs code 0) r
 unfolding regularTable
 regular-row code r h j = table-row glyphs code r j h
 

@@ -3,6 +3,7 @@ pub mod Signs
 pub mod Glyphs
 pub mod Modes
 pub mod Font
+pub mod Ink
 pub mod Slant
 pub mod Blend
 pub mod Paint

@@ -48,7 +48,7 @@ abbrev pub penOffsets : Pen → List ℕ
 penOffsets pen = rowOffsets (leans (pen .shear))
 
 -- what is lent beside a pen, for the stroke of a key's glyph: exactly these
-pub record Inked (key : GlyphKey) (pen : Pen) (glyph offsets : List ℕ) : Type 0 where
+pub record Prepared (key : GlyphKey) (pen : Pen) (glyph offsets : List ℕ) : Type 0 where
   pub shear : Shear (pen .shear)
   pub glyph-is : glyph ≡ penGlyph key pen
   pub offsets-are : offsets ≡ penOffsets pen

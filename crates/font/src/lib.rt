@@ -13,6 +13,7 @@ ghost use mathlib.Core.Bool.{true, false};
 ghost use Prim.Native.Nat.{_<_};
 ghost use Rattle.font.specs.Modes.{drawnCode};
 ghost use Rattle.font.specs.Font.{tableOf, glyphRows};
+ghost use Rattle.font.specs.Ink.{isInked};
 ghost use Rattle.font.specs.Colors.{colorBytes};
 ghost use Rattle.font.specs.Slant.{rowOffset, rowOffsets};
 ghost use Rattle.font.specs.Shear.{fontOf, penOf, leans, Shear, Moved, rounded};
@@ -95,6 +96,22 @@ pub fn glyph_rows(table: &[u8; 4096], key: GlyphKey) -> [u8; 16]
         r += 1;
     }
     rows
+}
+
+// Whether a code point's glyph has ink, which is alike in both fonts and in every mode.
+pub fn has_ink(code: u32) -> bool
+    ensures { λ r. ⌜ r ≡ isInked code ⌝ }
+{
+    if code <= 0x20 {
+        return false;
+    }
+    if code < 0x7f {
+        return true;
+    }
+    if code <= 0xa0 {
+        return false;
+    }
+    code != 0xad
 }
 
 // The bytes of a color 0xRRGGBBAA.

@@ -6,7 +6,7 @@ ghost use Rattle.font.specs.Font.{cellH};
 ghost use Rattle.font.specs.Blend.{blendByte, blendAlpha, blendPixel};
 ghost use Rattle.font.specs.Paint.{origin, paintColumn, paintBit, paintRow, eachRow};
 ghost use Rattle.font.specs.Upward.{partAfter};
-ghost use Rattle.font.specs.Shear.{penRow, Inked};
+ghost use Rattle.font.specs.Shear.{penRow, Prepared};
 ghost use Rattle.font.specs.Lent.{mostLent, Lent, Reachable};
 use crate::BitmapFont;
 use crate::GlyphKey;
@@ -173,7 +173,7 @@ pub fn draw_glyph_sheared(
     at: Spot,
     pen: Pen,
 )
-    requires { ⌜ Lent (length (now part)) rows × Reachable at × Inked key pen (now glyph) (now offsets) ⌝ }
+    requires { ⌜ Lent (length (now part)) rows × Reachable at × Prepared key pen (now glyph) (now offsets) ⌝ }
     ensures { λ _. ⌜ now (part .exit)
         ≡ eachRow (penRow key pen at) (4 * rows .width) (rows .count) (rows .first) (now (part .entry)) ⌝ }
 {

@@ -10,6 +10,7 @@ use Rattle.tape.specs.Runs.{mergeInto, lettersOf}
 use Rattle.tape.specs.Tape.{leastRoom, read, tapeRuns, tapeLetters}
 use Rattle.tape.specs.Segments.{letterBytes}
 use Rattle.font.specs.Font.{tabulate, regularTable}
+use Rattle.font.specs.Ink.{hasInk}
 use Rattle.wrap.specs.Lines.{upFrom, withoutLast, visibleCols, logicalLines, tokenise, isSpaceToken, chunks, putChunks, addOrBreak, putToken, putTokens, fill, wrapRuns}
 use Rattle.compositor.specs.Settings.{outOfRange}
 use Rattle.compositor.specs.Layout.{baseLine, lineStart}
@@ -43,5 +44,5 @@ pub record Cases : Type 0 where
       (work 19 0 1 1 AB ≡ refused 14 0) × (work 0 1 0 1 AB ≡ refused 14 0) × (work 18 0 1 1 AB ≡ refused 12 0) × (work 0 0 0xffff_ffff 1 AB ≡ refused 12 0)
 
 pub cases : Cases
-unfolding workCall stripeCall countersUnsound stripesFault hasStripe divisionOf cueCall tapeStrokes outOfRange drawing linesStrokes lineStrokes glyphStrokes displacements displacementRows displacementRow lineStart baseLine tabulate regularTable wrapRuns visibleCols logicalLines tokenise isSpaceToken chunks putChunks addOrBreak putToken putTokens fill withoutLast upFrom flatten tapeLetters tapeRuns read faultOf commandOf codePoint isLetter isOpener isScalar added mergeInto lettersOf sameStyle letterBytes
+unfolding hasInk workCall stripeCall countersUnsound stripesFault hasStripe divisionOf cueCall tapeStrokes outOfRange drawing linesStrokes lineStrokes glyphStrokes displacements displacementRows displacementRow lineStart baseLine tabulate regularTable wrapRuns visibleCols logicalLines tokenise isSpaceToken chunks putChunks addOrBreak putToken putTokens fill withoutLast upFrom flatten tapeLetters tapeRuns read faultOf commandOf codePoint isLetter isOpener isScalar added mergeInto lettersOf sameStyle letterBytes
 cases = record { stripes = (refl, refl, refl, refl); budgets = (refl, refl, refl, refl); records = (refl, refl, refl, refl) }

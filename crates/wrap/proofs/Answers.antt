@@ -2,26 +2,26 @@
 use mathlib.Core.Path.{_≡_}
 use mathlib.Core.Bool.{_||_}
 use mathlib.Core.List.{List}
-use Prim.Native.Nat.{ℕ, _+_, _≤_, _<_, _^_}
+use Prim.Native.Nat.{ℕ, _≤_, _<_, _^_}
 use native.Mathlib.Omega.{arith}
 use borrow.Author.Tests.{ltb-false}
 use lib.Dec.{lit≤, ltb}
 use lib.ListN.{length}
 use Rattle.tape.specs.declared.Answer.{Answer}
 use Rattle.tape.specs.Outcome.{Outcome, accepted, refused, onAccepted}
-use Rattle.tape.specs.Command.{mostLetters}
 use Rattle.tape.specs.Runs.{Letter}
 use Rattle.tape.specs.Tape.{leastRoom, readCall}
 use Rattle.tape.proofs.Answers.{Fits, fits}
 use Rattle.tape.proofs.Calls.{Bounded, refuse-bounded, weaken, accepted-is, Packs, packs}
 use Rattle.wrap.specs.Wrap.{Caption, mostColumns, captionOf, wrapCall}
+use Rattle.wrap.specs.Laid.{mostLines}
 use Rattle.wrap.specs.Wrapped.{Wrapped}
 use Rattle.wrap.proofs.FewLines.{few-lines}
 use Rattle.wrap.proofs.CallWrap.{or-none, white}
 
 -- a caption that was wrapped in a workspace of `room` bytes
 pub record Small (room : ℕ) (c : Caption) : Type 0 where
-  pub few : length (c .lines) ≤ mostLetters + 1
+  pub few : length (c .lines) ≤ mostLines
   pub enough : leastRoom ≤ room
 
 pub wrap-bounded : (limit room : ℕ) (tape : List ℕ) → Bounded (Small room) 11 (wrapCall limit room tape)
@@ -36,7 +36,7 @@ wrap-bounded limit room tape =
 
 -- so many lines were made
 pub lines-fit : (tape ws : List ℕ) {ws' : List ℕ} (limit : ℕ) {r : Answer} → Wrapped tape ws ws' limit r → {lines : ℕ} → r ≡ Answer.Accepted lines
-    → (lines ≤ mostLetters + 1) × (leastRoom ≤ length ws)
+    → (lines ≤ mostLines) × (leastRoom ≤ length ws)
 lines-fit tape ws limit w e =
     let a = accepted-is w e in
     let small : Small (length ws) (a .given) = rw (a .means) at (wrap-bounded limit (length ws) tape) in

@@ -1,12 +1,12 @@
 -- All lines: where they lie, and then at the workspace's front; and what the call comes to.
 use mathlib.Core.Path.{_≡_, _∙_, refl, sym, ap, ap₂}
 use mathlib.Core.Bool.{Bool, true, false, _||_, true≢false}
-use mathlib.Core.List.{List, [], _++_, flatten, append-nil}
+use mathlib.Core.List.{List, _++_, flatten}
 use Prim.Native.Nat.{ℕ, _+_, _*_, _≤_, _<_}
 use native.Mathlib.Omega.{arith}
 use borrow.Author.Tests.{lt-ltb, le-ltb}
-use lib.ListN.{length, take, replicate, length-append}
-use lib.Seq.{sets, slice}
+use lib.ListN.{length, take, replicate}
+use lib.Seq.{sets, slice, take-append-seam}
 use Rattle.tape.specs.declared.Style.{Style}
 use Rattle.tape.specs.declared.Answer.{Answer}
 use Rattle.tape.specs.Command.{mostLetters}
@@ -20,70 +20,92 @@ use Rattle.tape.proofs.Calls.{Refuses, refuses, accepts}
 use Rattle.tape.proofs.StoredLetters.{letter-is}
 use Rattle.wrap.specs.declared.line.Cursor.{Cursor}
 use Rattle.wrap.specs.declared.Lines.{Lines}
-use Rattle.wrap.specs.Lines.{Line, Filling, upFrom, noLetter, withoutLast, logicalLines, noLines, filled, isEmptyLine, wrapRuns}
+use Rattle.wrap.specs.Lines.{Line, noLetter, withoutLast, isEmptyLine, wrapRuns}
 use Rattle.wrap.specs.Wrap.{mostColumns, captionOf, wrapCall, twos, lineTable}
-use Rattle.wrap.specs.Laid.{numbersFrom, tableFrom, Holds, Laid, Brought}
-use Rattle.wrap.specs.Filled.{done, Held}
+use Rattle.wrap.specs.Shown.{inkedLetters}
+use Rattle.wrap.specs.Laid.{numbersFrom, tableFrom, inkedFrom, inkedIn, inkedTotals, Holds, Laid, Brought}
+use Rattle.wrap.specs.Filled.{done, Held, Ended}
 use Rattle.wrap.specs.Wrapped.{Wrapped}
 use Rattle.wrap.proofs.Lists.{last-front, last-short, last-all}
-use Rattle.wrap.proofs.AllShown.{fill-ended}
-use Rattle.wrap.proofs.TableBytes.{length-twos, length-table, take-table, slice-after, slice-less, front-two}
+use Rattle.wrap.proofs.InkCounts.{trim-ink, take-totals}
+use Rattle.wrap.proofs.TableBytes.{length-twos, take-twos, length-table, take-table, slice-after, slice-less, front-two}
 
 -- ---- where they lie
 
-module _ (ls : List Letter) (limit lines : ℕ) (c : Cursor) (ws : List ℕ) (held : Held ls (filled ls limit) c ws)
+module _ (ls : List Letter) (limit lines : ℕ) (c : Cursor) (ws : List ℕ) (end : Ended ls limit c ws)
     (left : (ds : List Line) → c .lines ≡ length ds → slice tableFrom (tableFrom + 4 * c .lines) ws ≡ lineTable ls ds
     → lines ≡ length (withoutLast isEmptyLine ds)) where
-  abbrev f : Filling
-  f = filled ls limit
+  abbrev held : Held ls (end .filling) c ws
+  held = end .held
 
-  count : lines ≡ length (wrapRuns ls limit)
-  unfolding wrapRuns
-  count = left (done ls f) (ap (λ (x : Cursor). x .lines) (held .cursor)) (held .table)
+  abbrev ds : List Line
+  ds = done ls (end .filling)
 
-  ended : f .line ≡ []
-  ended = fill-ended ls limit (logicalLines ls (upFrom 0 (length ls))) noLines refl
+  -- how many are left of them
+  abbrev n : ℕ
+  n = length (wrapRuns ls limit)
 
-  all : flatten (done ls f) ++ f .line ≡ flatten (wrapRuns ls limit)
-  unfolding wrapRuns
-  all = ap (λ (x : Line). flatten (done ls f) ++ x) ended ∙ append-nil (flatten (done ls f)) ∙ sym (last-all (done ls f))
+  there : c .lines ≡ length ds
+  there = ap (λ (x : Cursor). x .lines) (held .cursor)
 
-  letters : c .end ≡ length (flatten (wrapRuns ls limit))
-  letters =
-      ap (λ (x : Cursor). x .end) (held .cursor)
-      ∙ sym (length-append (flatten (done ls f)) (f .line))
-      ∙ ap length all
+  fewer : n ≤ c .lines
+  fewer = let short = last-short isEmptyLine ds in let e = ap length (end .lines) in omega (arith, there)
 
-  table : slice tableFrom (tableFrom + 4 * length (wrapRuns ls limit)) ws ≡ lineTable ls (wrapRuns ls limit)
-  unfolding wrapRuns
+  front : take n ds ≡ wrapRuns ls limit
+  front = ap (λ (r : List Line). take (length r) ds) (sym (end .lines)) ∙ last-front isEmptyLine ds ∙ end .lines
+
+  all : flatten ds ≡ flatten (wrapRuns ls limit)
+  all = sym (last-all ds) ∙ ap flatten (end .lines)
+
+  letters : c .start ≡ length (flatten (wrapRuns ls limit))
+  letters = ap (λ (x : Cursor). x .start) (held .cursor) ∙ ap length all
+
+  numbers : slice numbersFrom (numbersFrom + 2 * length (flatten (wrapRuns ls limit))) ws ≡ twos (flatten (wrapRuns ls limit))
+  numbers =
+      let m : ℕ = length (flatten ds) in
+      let to : c .end ≡ m + length (end .filling .line) = ap (λ (x : Cursor). x .end) (held .cursor) in
+      ap (λ (x : List ℕ). slice numbersFrom (numbersFrom + 2 * length x) ws) (sym all)
+      ∙ slice-less ws numbersFrom (2 * m) (2 * c .end) (omega arith)
+      ∙ ap (take (2 * m)) (held .numbers)
+      ∙ take-twos m (flatten ds ++ end .filling .line)
+      ∙ ap twos (take-append-seam (flatten ds) (end .filling .line) ∙ all)
+
+  table : slice tableFrom (tableFrom + 4 * n) ws ≡ lineTable ls (wrapRuns ls limit)
   table =
-      let n : c .lines ≡ length (done ls f) = ap (λ (x : Cursor). x .lines) (held .cursor) in
-      let short = last-short isEmptyLine (done ls f) in
-      slice-less ws tableFrom (4 * length (wrapRuns ls limit)) (4 * c .lines) (omega arith)
-      ∙ ap (take (4 * length (wrapRuns ls limit))) (held .table)
-      ∙ take-table ls (length (wrapRuns ls limit)) (done ls f)
-      ∙ ap (lineTable ls) (last-front isEmptyLine (done ls f))
+      slice-less ws tableFrom (4 * n) (4 * c .lines) (omega (arith, fewer))
+      ∙ ap (take (4 * n)) (held .table)
+      ∙ take-table ls n ds
+      ∙ ap (lineTable ls) front
 
-  pub laid : Laid ls limit (record { lines = lines; letters = c .end }) ws
+  inked : slice inkedFrom (inkedFrom + 2 * n) ws ≡ twos (inkedTotals ls 0 (wrapRuns ls limit))
+  inked =
+      slice-less ws inkedFrom (2 * n) (2 * c .lines) (omega (arith, fewer))
+      ∙ ap (take (2 * n)) (held .inked)
+      ∙ take-twos n (inkedTotals ls 0 ds)
+      ∙ ap twos (take-totals ls n 0 ds ∙ ap (inkedTotals ls 0) front)
+
+  -- the spaces that are left of the last line have no ink
+  total : c .inked ≡ inkedIn ls (flatten (wrapRuns ls limit))
+  unfolding inkedLetters
+  total =
+      let none : inkedIn ls (end .filling .line) ≡ 0 = sym (trim-ink ls (end .filling .line)) ∙ ap (inkedIn ls) (end .spaces) in
+      let same = ap (inkedIn ls) all in
+      ap (λ (x : Cursor). x .inked) (held .cursor) ∙ omega arith
+
+  pub laid : Laid ls limit (record { lines = lines; letters = c .start; inked = c .inked }) ws
   laid =
       record {
         letters = held .letters;
-        lines =
-            record {
-              numbers =
-                  ap (λ (x : ℕ). slice numbersFrom (numbersFrom + 2 * x) ws) (sym letters)
-                  ∙ held .numbers
-                  ∙ ap twos all;
-              table = table;
-            };
-        count = count;
+        lines = record { numbers = numbers; table = table; inked = inked };
+        count = left ds there (held .table) ∙ ap length (end .lines);
         onLines = letters;
+        withInk = total;
       }
 
 -- ---- at the front
 
 module _ (ls : List Letter) (limit : ℕ) (made : Lines) (ws : List ℕ) (laid : Laid ls limit made ws)
-    (few : made .lines ≤ mostLetters + 1) (short : made .letters ≤ mostLetters) (room : leastRoom ≤ length ws) where
+    (few : made .lines ≤ mostLetters) (short : made .letters ≤ mostLetters) (room : leastRoom ≤ length ws) where
   pub brought : (ws2 ws3 : List ℕ) → ws2 ≡ sets ws 0 (slice tableFrom (tableFrom + 4 * made .lines) ws)
       → ws3 ≡ sets ws2 (4 * made .lines) (slice numbersFrom (numbersFrom + 2 * made .letters) ws2)
       → Brought ls limit (made .lines) ws3

@@ -12,7 +12,7 @@ use Rattle.wrap.specs.Columns.{isControl, isTab, columnsOf}
 use Rattle.wrap.specs.Lines.{Line, Filling, closeIf, visibleCols, codeOf, hasColumns}
 use Rattle.wrap.proofs.Lists.{cases}
 
-one-column : (c : ℕ) → columnsOf c ≤ 1
+pub one-column : (c : ℕ) → columnsOf c ≤ 1
 one-column c = cases (λ (n : ℕ). n ≤ 1) (isControl c && not (isTab c)) 0 1 (λ _. omega arith) (λ _. omega arith)
 
 module _ (ls : List Letter) where

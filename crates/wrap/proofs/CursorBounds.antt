@@ -18,8 +18,10 @@ module _ (c : Cursor) (i : ℕ) (sane : Sane c i) where
         end = omega arith;
         within = omega arith;
         columns = omega arith;
+        inked = omega arith;
         lines = omega arith;
         busy = λ z. let b = sane .busy z in omega arith;
+        some = λ z. let b = sane .some z in omega arith;
       }
 
   after-close : (j : ℕ) → i ≤ j → c .lines < j → Sane (closed c) j
@@ -30,17 +32,24 @@ module _ (c : Cursor) (i : ℕ) (sane : Sane c i) where
         end = omega arith;
         within = omega arith;
         columns = omega arith;
+        inked = omega arith;
         lines = omega arith;
         busy = λ z. absurd (omega arith);
+        some = λ z. absurd (omega arith);
       }
 
-  -- closed by a break, or at the end
+  -- closed by a break
   pub sane-break : Sane (closed c) (i + 1)
   sane-break = after-close (i + 1) (omega arith) (omega arith)
 
   -- closed because it has columns
   sane-close : 0 < c .columns → Sane (closed c) i
   sane-close h = after-close i (omega arith) (sane .busy h)
+
+  -- closed at the end because it has letters
+  pub sane-last : (b : Bool) → (b ≡ true → c .start < c .kept) → Sane (cond b (closed c) c) i
+  sane-last true h = after-close i (omega arith) (sane .some (h refl))
+  sane-last false h = sane
 
   pub sane-if : (b : Bool) → (b ≡ true → 0 < c .columns) → Sane (cond b (closed c) c) i
   sane-if true h = sane-close (h refl)

@@ -5,7 +5,7 @@ use mathlib.Core.List.{List, [], _∷_, _++_, flatten, append-assoc, append-nil,
 use Prim.Native.Nat.{ℕ, _+_, _*_, _-_, _≤_, _<_}
 use native.Mathlib.Omega.{arith}
 use lib.ListN.{length, take, length-append}
-use lib.Seq.{sets, slice, take-append-add}
+use lib.Seq.{sets, slice, take-append-add, length-sets}
 use Rattle.tape.specs.Command.{mostLetters}
 use Rattle.tape.specs.Runs.{Letter}
 use Rattle.tape.specs.Tape.{leastRoom}
@@ -14,10 +14,12 @@ use Rattle.wrap.specs.declared.line.Cursor.{Cursor}
 use Rattle.wrap.specs.Columns.{isSpace}
 use Rattle.wrap.specs.Lines.{Line, Filling, codeOf, visibleCols, close, add, trimTrailingSpace, isEmptyLine, withoutLast}
 use Rattle.wrap.specs.Wrap.{two, twos, lineTable}
-use Rattle.wrap.specs.Laid.{numbersFrom, tableFrom, Holds}
+use Rattle.wrap.specs.Shown.{inkedLetters}
+use Rattle.wrap.specs.Laid.{numbersFrom, tableFrom, inkedFrom, inkedIn, inkedTotals, Holds}
 use Rattle.wrap.specs.Filled.{done, cursorOf, closed, added, Held, Sane}
 use Rattle.wrap.proofs.Lists.{flatten-append, last-front, last-none, last-some}
 use Rattle.wrap.proofs.ColumnCounts.{cols-append}
+use Rattle.wrap.proofs.InkCounts.{ink-append, trim-ink, totals-snoc}
 use Rattle.wrap.proofs.TableBytes.{twos-append, length-twos, take-twos, getD-sets, slice-before, slice-after, slice-grow, slice-less, table-snoc}
 
 module _ (ls : List Letter) where
@@ -78,13 +80,15 @@ module _ (ls : List Letter) where
         ∙ ap (λ (x : Line). before ++ x) (append-nil (trim (f .line)))
 
     close-cursor : closed (cursorOf ls f) ≡ cursorOf ls (close f)
-    unfolding visibleCols withoutLast
+    unfolding visibleCols inkedLetters withoutLast
     close-cursor =
         let lines : length (done ls f) + 1 ≡ length (done ls (close f)) = sym (ap length close-done ∙ length-append (done ls f) (trim (f .line) ∷ [])) in
         let start : length before + length (trim (f .line)) ≡ length (flatten (done ls (close f))) =
         sym (ap length close-flat ∙ length-append before (trim (f .line))) in
         let end : length before + length (trim (f .line)) ≡ length (flatten (done ls (close f))) + 0 = omega arith in
-        λ t. record { lines = lines t; start = start t; end = end t; kept = end t; columns = 0; «kept_columns» = 0 }
+        let ink : inkedIn ls before + inkedIn ls (f .line) ≡ inkedIn ls (flatten (done ls (close f))) + 0 =
+        let flat = ap (inkedIn ls) close-flat ∙ ink-append ls before (trim (f .line)) in let same = trim-ink ls (f .line) in omega arith in
+        λ t. record { lines = lines t; start = start t; end = end t; kept = end t; columns = 0; «kept_columns» = 0; inked = ink t }
 
     add-cursor : (t : Line) → added ls (cursorOf ls f) t (trim t) ≡ cursorOf ls (add f t)
     add-cursor t =
@@ -95,7 +99,18 @@ module _ (ls : List Letter) where
         rw (j .letters) (spread (isEmptyLine (trim t)) n (length (trim (f .line))) (length (f .line)) (length (trim t))) in
         let cols = sym (cols-append ls (f .line) t) in
         let kept-cols = sym (j .columns) in
-        λ i. record { lines = length (done ls f); start = n; end = end i; kept = kept i; columns = cols i; «kept_columns» = kept-cols i }
+        let ink : inkedIn ls before + inkedIn ls (f .line) + inkedIn ls t ≡ inkedIn ls before + inkedIn ls (f .line ++ t) =
+        let e = ink-append ls (f .line) t in omega arith in
+        λ i.
+        record {
+          lines = length (done ls f);
+          start = n;
+          end = end i;
+          kept = kept i;
+          columns = cols i;
+          «kept_columns» = kept-cols i;
+          inked = ink i;
+        }
       where
         spread : (b : Bool) (s x y z : ℕ) → cond b (s + x) (s + y + z) ≡ s + cond b x (y + z)
         spread true s x y z = refl
@@ -108,9 +123,13 @@ module _ (ls : List Letter) where
     abbrev entry : List ℕ
     entry = two (c .kept - c .start) ++ two (c .«kept_columns»)
 
-    pub held-close : Sane c mostLetters → Held ls (close f) (closed c) (sets ws (tableFrom + 4 * c .lines) entry)
+    -- the workspace with it, and with the total
+    abbrev closing : List ℕ
+    closing = sets (sets ws (tableFrom + 4 * c .lines) entry) (inkedFrom + 2 * c .lines) (two (c .inked))
+
+    pub held-close : Sane c mostLetters → c .lines < mostLetters → Held ls (close f) (closed c) closing
     unfolding twos
-    held-close sane =
+    held-close sane less =
         let d : Line = before f in
         let t : Line = trim (f .line) in
         let e = held .cursor in
@@ -118,12 +137,15 @@ module _ (ls : List Letter) where
         let kept : c .kept ≡ length d + length t = ap (λ (x : Cursor). x .kept) e in
         let cols : c .«kept_columns» ≡ visibleCols ls t = ap (λ (x : Cursor). x .«kept_columns») e in
         let is : entry ≡ two (length t) ++ two (visibleCols ls t) = ap₂ (λ (x y : ℕ). two x ++ two y) (omega arith) cols in
+        let total : c .inked ≡ 0 + inkedIn ls d + inkedIn ls t = let e = ap (λ (x : Cursor). x .inked) e in let same = trim-ink ls (f .line) in omega arith in
+        let two-more : inkedFrom + 2 * (c .lines + 1) ≡ inkedFrom + 2 * c .lines + 2 = omega arith in
         let four : tableFrom + 4 * (c .lines + 1) ≡ tableFrom + 4 * c .lines + 4 = omega arith in
         record {
-          letters = holds-sets entry ws (tableFrom + 4 * c .lines) (omega arith) (held .letters);
+          letters = holds-sets (two (c .inked)) _ (inkedFrom + 2 * c .lines) (omega arith) (holds-sets entry ws (tableFrom + 4 * c .lines) (omega arith) (held .letters));
           cursor = ap closed e ∙ close-cursor f;
           numbers =
-              slice-before entry ws (tableFrom + 4 * c .lines) numbersFrom (numbersFrom + 2 * c .kept) (omega arith)
+              slice-before (two (c .inked)) _ (inkedFrom + 2 * c .lines) numbersFrom (numbersFrom + 2 * c .kept) (omega arith)
+              ∙ slice-before entry ws (tableFrom + 4 * c .lines) numbersFrom (numbersFrom + 2 * c .kept) (omega arith)
               ∙ slice-less ws numbersFrom (2 * c .kept) (2 * c .end) (omega arith)
               ∙ ap (take (2 * c .kept)) (held .numbers)
               ∙ take-twos (c .kept) (d ++ f .line)
@@ -133,11 +155,21 @@ module _ (ls : List Letter) where
               ∙ sym (append-nil (d ++ t))
               ∙ ap (λ (x : Line). x ++ []) (sym (close-flat f)));
           table =
-              ap (λ (x : ℕ). slice tableFrom x (sets ws (tableFrom + 4 * c .lines) entry)) four
+              slice-before (two (c .inked)) _ (inkedFrom + 2 * c .lines) tableFrom (tableFrom + 4 * (c .lines + 1)) (omega arith)
+              ∙ ap (λ (x : ℕ). slice tableFrom x (sets ws (tableFrom + 4 * c .lines) entry)) four
               ∙ slice-grow entry ws tableFrom (4 * c .lines) (omega arith)
               ∙ ap₂ (λ (x y : List ℕ). x ++ y) (held .table) is
               ∙ sym (table-snoc ls (done ls f) t)
               ∙ ap (lineTable ls) (sym (close-done f));
+          inked =
+              ap (λ (x : ℕ). slice inkedFrom x closing) two-more
+              ∙ slice-grow (two (c .inked)) (sets ws (tableFrom + 4 * c .lines) entry) inkedFrom (2 * c .lines) (omega (arith, length-sets ws (tableFrom + 4 * c .lines) entry))
+              ∙ ap (λ (x : List ℕ). x ++ two (c .inked))
+              (slice-after entry ws (tableFrom + 4 * c .lines) inkedFrom (inkedFrom + 2 * c .lines) (omega arith) ∙ held .inked)
+              ∙ ap (λ (x : ℕ). twos (inkedTotals ls 0 (done ls f)) ++ two x) total
+              ∙ sym (twos-append (inkedTotals ls 0 (done ls f)) _)
+              ∙ ap twos (sym (totals-snoc ls 0 (done ls f) t))
+              ∙ ap (λ (x : List Line). twos (inkedTotals ls 0 x)) (sym (close-done f));
         }
 
     pub held-add : (t : Line) → c .end + length t ≤ mostLetters
@@ -159,4 +191,7 @@ module _ (ls : List Letter) where
           table =
               slice-after (twos t) ws (numbersFrom + 2 * c .end) tableFrom (tableFrom + 4 * c .lines) (omega arith)
               ∙ held .table;
+          inked =
+              slice-after (twos t) ws (numbersFrom + 2 * c .end) inkedFrom (inkedFrom + 2 * c .lines) (omega arith)
+              ∙ held .inked;
         }

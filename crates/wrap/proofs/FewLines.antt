@@ -1,7 +1,7 @@
--- THE LAW: there are at most as many lines as letters, and one more. So the table of lines fits where it is kept.
-use mathlib.Core.Path.{_≡_, refl, ap}
+-- THE LAW: there are at most as many lines as letters. So the table of lines fits where it is kept.
+use mathlib.Core.Path.{_≡_, _∙_, refl, ap, subst}
 use mathlib.Core.Bool.{Bool, true, false, _&&_, not, cond}
-use mathlib.Core.List.{List, [], _∷_, map, flatten}
+use mathlib.Core.List.{List, [], _∷_, map, flatten, map-append}
 use Prim.Native.Nat.{ℕ, zero, suc, _+_, _-_, _≤_, _<_}
 use native.Mathlib.Omega.{arith}
 use lib.Dec.{eqb, leb, ltb}
@@ -10,8 +10,9 @@ use borrow.Author.Tests.{ltb-true, leb-true}
 use Rattle.tape.specs.Runs.{Letter}
 use Rattle.tape.proofs.EqualStyles.{split}
 use Rattle.wrap.specs.Columns.{isBreak}
-use Rattle.wrap.specs.Lines.{Line, Filling, upFrom, ontoFirst, codeOf, visibleCols, logicalLines, together, ontoToken, tokenise, isSpaceToken, chunks, hardBreak, noLines, close, closeIf, add, hasColumns, putChunk, putChunks, addOrBreak, passes, putToken, putTokens, fill, filled, trimTrailingSpace, isEmptyLine, wrapRuns}
-use Rattle.wrap.proofs.Lists.{cases, last-short, length-up}
+use Rattle.wrap.specs.Lines.{Line, Filling, upFrom, ontoFirst, codeOf, visibleCols, logicalLines, together, ontoToken, tokenise, isSpaceToken, chunks, hardBreak, noLines, close, closeIf, add, hasColumns, putChunk, putChunks, addOrBreak, passes, putToken, putTokens, fill, trimTrailingSpace, isEmptyLine, withoutLast, wrapRuns}
+use Rattle.wrap.proofs.Lists.{cases, last-drop, last-short, length-up}
+use Rattle.wrap.proofs.ColumnCounts.{cols-le}
 use Rattle.wrap.proofs.Chunks.{chunks-all}
 use Rattle.wrap.proofs.AllShown.{tokens-all}
 
@@ -63,7 +64,7 @@ module _ (ls : List Letter) where
 
   record Few (f : Filling) (p : ℕ) : Type 0 where
     lines : length (f .closed) ≤ p
-    busy : 0 < visibleCols ls (f .line) → length (f .closed) < p
+    busy : 1 ≤ length (f .line) → length (f .closed) < p
 
   few-on : (f : Filling) (p q : ℕ) → p ≤ q → Few f p → Few f q
   few-on f p q h few =
@@ -72,11 +73,10 @@ module _ (ls : List Letter) where
 
   -- closed: there is one line more, and it has letters of its own or a break after it
   close-few : (f : Filling) (p : ℕ) → length (f .closed) < p → Few (close f) p
-  unfolding visibleCols
   close-few f p h = let n = length-append (f .closed) (f .line ∷ []) in record { lines = omega arith; busy = λ z. absurd (omega arith) }
 
   closeIf-few : (b : Bool) (f : Filling) (p : ℕ) → (b ≡ true → 0 < visibleCols ls (f .line)) → Few f p → Few (closeIf b f) p
-  closeIf-few true f p h few = close-few f p (few .busy (h refl))
+  closeIf-few true f p h few = let some = cols-le ls (f .line) in let columns = h refl in close-few f p (few .busy (omega arith))
   closeIf-few false f p h few = few
 
   add-few : (f : Filling) (t : Line) (p : ℕ) → 1 ≤ length t → Few f p → Few (add f t) (p + length t)
@@ -111,7 +111,7 @@ module _ (ls : List Letter) where
     token-few f t p h few =
         let on = few-on f p (p + length t) (omega arith) few in
         let next : passes ls L f t ≡ true → Few (close f) p =
-        λ e. close-few f p (few .busy (ltb-true 0 _ (split _ _ e .0))) in
+        λ e. closeIf-few true f p (λ _. ltb-true 0 _ (split _ _ e .0)) few in
         cases (λ (g : Filling). Few g (p + length t)) (eqb (visibleCols ls t) 0) _ _ (λ _. on)
         (λ _. cases (λ (g : Filling). Few g (p + length t)) (isSpaceToken ls t && not (hasColumns ls L f)) _ _ (λ _. on)
         (λ _. cases (λ (g : Filling). Few g (p + length t)) (passes ls L f t) _ _
@@ -128,16 +128,51 @@ module _ (ls : List Letter) where
         few-on _ (p + length t + length (flatten ts)) _ (omega arith)
         (tokens-few ts (putToken ls L f t) (p + length t) (s .1) (token-few f t p (s .0) few))
 
-    fill-few : (lines : List Line) (f : Filling) (p : ℕ) → Few f p → Few (fill ls L f lines) (p + length (flatten lines) + length lines)
+    -- what is kept of lines when the last is closed: it has letters of its own, or goes
+    abbrev kept : Filling → List Line
+    kept f = withoutLast isEmptyLine (map (trimTrailingSpace ls) (f .closed))
+
+    close-kept : (f : Filling) (p : ℕ) → Few f p → length (kept (close f)) ≤ p
+    unfolding withoutLast
+    close-kept f p few = by (f .line) refl
+      where
+        by : (l : Line) → f .line ≡ l → length (kept (close f)) ≤ p
+        by [] e =
+            let gone : kept (close f) ≡ kept f =
+            ap (withoutLast isEmptyLine) (map-append (trimTrailingSpace ls) (f .closed) (f .line ∷ []))
+            ∙ last-drop isEmptyLine (map (trimTrailingSpace ls) (f .closed)) (trimTrailingSpace ls (f .line)) (ap (λ (l : Line). isEmptyLine (trimTrailingSpace ls l)) e) in
+            let n = ap length gone in
+            let short = last-short isEmptyLine (map (trimTrailingSpace ls) (f .closed)) in
+            let same = length-map (f .closed) (trimTrailingSpace ls) in
+            let lines = few .lines in
+            omega arith
+        by (k ∷ l) e =
+            let some = ap length e in
+            let busy = few .busy (omega arith) in
+            let n = length-append (f .closed) (f .line ∷ []) in
+            let short = last-short isEmptyLine (map (trimTrailingSpace ls) (close f .closed)) in
+            let same = length-map (close f .closed) (trimTrailingSpace ls) in
+            omega arith
+
+    -- a logical line's tokens
+    line-few : (l : Line) (f : Filling) (p : ℕ) → Few f p → Few (putTokens ls L f (tokenise ls l)) (p + length l)
+    line-few l f p few =
+        subst (λ (n : ℕ). Few (putTokens ls L f (tokenise ls l)) (p + n)) (ap length (tokens-all ls L l))
+        (tokens-few (tokenise ls l) f p (tokens-some l) few)
+
+    fill-few : (l : Line) (lines : List Line) (f : Filling) (p : ℕ) → Few f p
+        → length (kept (fill ls L f (l ∷ lines))) ≤ p + length (flatten (l ∷ lines)) + length lines
     unfolding fill flatten
-    fill-few [] f p few = few-on f p (p + 0 + 0) (omega arith) few
-    fill-few (l ∷ lines) f p few =
+    fill-few l [] f p few =
+        let n = length-append l [] in
+        let last = close-kept (putTokens ls L f (tokenise ls l)) (p + length l) (line-few l f p few) in
+        omega arith
+    fill-few l (m ∷ lines) f p few =
         let g : Filling = putTokens ls L f (tokenise ls l) in
-        let n = length-append l (flatten lines) in
-        let m : length (flatten (tokenise ls l)) ≡ length l = ap length (tokens-all ls L l) in
-        let put = tokens-few (tokenise ls l) f p (tokens-some l) few .lines in
-        few-on _ (p + length l + 1 + length (flatten lines) + length lines) _ (omega arith)
-        (fill-few lines (close g) (p + length l + 1) (close-few g (p + length l + 1) (omega arith)))
+        let n = length-append l (flatten (m ∷ lines)) in
+        let put = line-few l f p few .lines in
+        let rest = fill-few m lines (close g) (p + length l + 1) (close-few g (p + length l + 1) (omega arith)) in
+        omega arith
 
   -- ---- logical lines: one more than breaks
 
@@ -158,15 +193,20 @@ module _ (ls : List Letter) where
           (λ _. record { some = omega arith; all = omega arith })
           (λ _. record { some = omega arith; all = omega arith })
 
-  pub few-lines : (L : ℕ) → 1 ≤ L → length (wrapRuns ls L) ≤ length ls + 1
-  unfolding wrapRuns visibleCols
-  few-lines L one =
-      let all : Line = upFrom 0 (length ls) in
-      let f : Filling = filled ls L in
-      let none : Few noLines 0 = record { lines = omega arith; busy = λ z. absurd (omega arith) } in
-      let n = fill-few L one (logicalLines ls all) noLines 0 none .lines in
-      let cut = logical-cut all .all in
-      let up = length-up 0 (length ls) in
-      let short = last-short isEmptyLine (map (trimTrailingSpace ls) (f .closed)) in
-      let same = length-map (f .closed) (trimTrailingSpace ls) in
-      omega arith
+  pub few-lines : (L : ℕ) → 1 ≤ L → length (wrapRuns ls L) ≤ length ls
+  unfolding wrapRuns
+  few-lines L one = by (logicalLines ls all) (logical-cut all)
+    where
+      all : Line
+      all = upFrom 0 (length ls)
+
+      none : Few noLines 0
+      none = record { lines = omega arith; busy = λ z. absurd (omega arith) }
+
+      by : (lines : List Line) → Cut all lines → length (kept L one (fill ls L noLines lines)) ≤ length ls
+      by [] cut = let some = cut .some in absurd (omega arith)
+      by (l ∷ lines) cut =
+          let most = fill-few L one l lines noLines 0 none in
+          let sum = cut .all in
+          let up = length-up 0 (length ls) in
+          omega arith

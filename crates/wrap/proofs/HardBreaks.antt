@@ -8,9 +8,10 @@ use lib.ListN.{length}
 use borrow.Author.Tests.{ltb-true, leb-true, lt-ltb, le-ltb}
 use Rattle.tape.specs.Runs.{Letter}
 use Rattle.wrap.specs.declared.line.Cursor.{Cursor}
+use Rattle.wrap.specs.declared.token.Tally.{Tally}
 use Rattle.wrap.specs.Lines.{Line, Filling, visibleCols, hardBreak, closeIf, add, hasColumns, putChunk, putChunks, addOrBreak}
 use Rattle.wrap.specs.Laid.{Holds}
-use Rattle.wrap.specs.Filled.{between, Held, Sane, Ready, Closed, Turns, Any, Wide}
+use Rattle.wrap.specs.Filled.{between, Held, Sane, Ready, Closed, Turns, Any, Tallied}
 use Rattle.wrap.proofs.Chunks.{break-last, break-more}
 use Rattle.wrap.proofs.CursorBounds.{sane-if}
 
@@ -25,11 +26,11 @@ module _ (limit i j : ℕ) where
   abbrev pub Chunks : Cursor → List ℕ → Cursor → List ℕ → Type 0
   Chunks = Turns Any (λ (ls : List Letter) (f : Filling). putChunks ls limit f (hardBreak limit (between i j))) j
 
-  abbrev Added : ℕ → Cursor → List ℕ → Cursor → List ℕ → Type 0
-  Added columns = Turns (Wide columns i j) (λ (ls : List Letter) (f : Filling). add f (between i j)) j
+  abbrev Added : Tally → Cursor → List ℕ → Cursor → List ℕ → Type 0
+  Added t = Turns (Tallied t i j) (λ (ls : List Letter) (f : Filling). add f (between i j)) j
 
-  abbrev pub Placed : ℕ → Cursor → List ℕ → Cursor → List ℕ → Type 0
-  Placed columns = Turns (Wide columns i j) (λ (ls : List Letter) (f : Filling). addOrBreak ls limit f (between i j)) j
+  abbrev pub Placed : Tally → Cursor → List ℕ → Cursor → List ℕ → Type 0
+  Placed t = Turns (Tallied t i j) (λ (ls : List Letter) (f : Filling). addOrBreak ls limit f (between i j)) j
 
   -- ---- one chunk: c has the line before it, c1 the one that it goes on
 
@@ -37,20 +38,20 @@ module _ (limit i j : ℕ) where
     pub chunk-sane : Sane c1 i
     chunk-sane = rw (first .cursor) (sane-if c i (ready .sane) (ltb 0 (c .columns)) (λ e. ltb-true 0 (c .columns) e))
 
-    pub chunk-turns : (columns : ℕ) → ((ls : List Letter) → j ≤ length ls → Holds ls ws → Wide columns i j ls)
+    pub chunk-turns : (t : Tally) → ((ls : List Letter) → j ≤ length ls → Holds ls ws → Tallied t i j ls)
         → {c2 c3 : Cursor} {ws2 ws3 : List ℕ}
-        → Added columns c1 ws1 c2 ws2 → Closed (leb limit (c2 .columns)) c2 ws2 c3 ws3 → Chunk c ws c3 ws3
-    chunk-turns columns wide {c2} {c3} {ws2} {ws3} added last =
+        → Added t c1 ws1 c2 ws2 → Closed (leb limit (c2 .columns)) c2 ws2 c3 ws3 → Chunk c ws c3 ws3
+    chunk-turns t tallied {c2} {c3} {ws2} {ws3} added last =
         record {
           sane =
               rw (last .cursor)
               (sane-if c2 j (added .sane) (leb limit (c2 .columns)) (λ e. let h = leb-true limit (c2 .columns) e in let one = ready .one in omega arith));
           held = λ ls f n any h.
-              let t : Line = between i j in
+              let chunk : Line = between i j in
               let g : Filling = closeIf (hasColumns ls limit f) f in
               let on : Held ls g c1 ws1 = rw (line-columns h) at (first .held ls f h) in
-              let filled : Held ls (add g t) c2 ws2 = added .held ls g n (wide ls n (h .letters)) on in
-              rw (line-columns filled) at (last .held ls (add g t) filled);
+              let filled : Held ls (add g chunk) c2 ws2 = added .held ls g n (tallied ls n (h .letters)) on in
+              rw (line-columns filled) at (last .held ls (add g chunk) filled);
         }
 
   -- ---- all chunks: k letters have been put
@@ -85,13 +86,13 @@ module _ (limit i j k : ℕ) {c c1 c2 : Cursor} {ws ws1 ws2 : List ℕ} (sofar :
 
 -- ---- rules 3 and 4
 
-module _ (limit i j columns : ℕ) {c c' : Cursor} {ws ws' : List ℕ} where
-  pub add-or-break-chunks : limit < columns → Chunks limit i j c ws c' ws' → Placed limit i j columns c ws c' ws'
+module _ (limit i j : ℕ) (t : Tally) {c c' : Cursor} {ws ws' : List ℕ} where
+  pub add-or-break-chunks : limit < t .columns → Chunks limit i j c ws c' ws' → Placed limit i j t c ws c' ws'
   unfolding addOrBreak
   add-or-break-chunks h chunks =
-      record { sane = chunks .sane; held = λ ls f n wide held. rw (← wide, lt-ltb limit columns h) (chunks .held ls f n tt held) }
+      record { sane = chunks .sane; held = λ ls f n tallied held. rw (← tallied .columns, lt-ltb limit (t .columns) h) (chunks .held ls f n tt held) }
 
-  pub add-or-break-adds : columns ≤ limit → Added limit i j columns c ws c' ws' → Placed limit i j columns c ws c' ws'
+  pub add-or-break-adds : t .columns ≤ limit → Added limit i j t c ws c' ws' → Placed limit i j t c ws c' ws'
   unfolding addOrBreak
   add-or-break-adds h added =
-      record { sane = added .sane; held = λ ls f n wide held. rw (← wide, le-ltb limit columns h) (added .held ls f n wide held) }
+      record { sane = added .sane; held = λ ls f n tallied held. rw (← tallied .columns, le-ltb limit (t .columns) h) (added .held ls f n tallied held) }

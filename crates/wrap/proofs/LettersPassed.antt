@@ -1,25 +1,28 @@
 -- The code passes all letters, a break or a token after the other.
-use mathlib.Core.Path.{_≡_, _∙_, refl, sym}
-use mathlib.Core.Bool.{true}
-use mathlib.Core.List.{List, flatten}
+use mathlib.Core.Path.{_≡_, _∙_, refl, sym, ap}
+use mathlib.Core.Bool.{Bool, true, false}
+use mathlib.Core.List.{List, [], _∷_, flatten, map-append}
 use Prim.Native.Nat.{ℕ, _+_, _-_, _≤_, _<_}
 use native.Mathlib.Omega.{arith}
+use lib.Dec.{ltb}
 use lib.ListN.{length}
 use lib.Seq.{slice-empty}
-use borrow.Author.Tests.{eq-eqb, ne-eqb}
+use borrow.Author.Tests.{eq-eqb, ne-eqb, ltb-true, ltb-false}
 use Rattle.tape.specs.Runs.{Letter}
 use Rattle.tape.specs.Stored.{codeAt}
 use Rattle.wrap.specs.declared.line.Cursor.{Cursor}
-use Rattle.wrap.specs.Lines.{Filling, visibleCols, noLines, close, putToken, filled, withoutLast}
+use Rattle.wrap.specs.Lines.{Line, Filling, visibleCols, noLines, close, closeIf, putToken, filled, trimTrailingSpace, isEmptyLine, withoutLast, wrapRuns}
 use Rattle.wrap.specs.Wrap.{twos, lineTable}
-use Rattle.wrap.specs.Laid.{numbersFrom, tableFrom, Holds}
-use Rattle.wrap.specs.Filled.{between, endOf, closed, Held, Sane, Closed, Turns, OneKind, Finished}
-use Rattle.wrap.proofs.CursorBounds.{sane-break}
+use Rattle.wrap.specs.Shown.{inkedLetters}
+use Rattle.wrap.specs.Laid.{numbersFrom, tableFrom, inkedFrom, inkedTotals, Holds}
+use Rattle.wrap.specs.Filled.{between, endOf, done, Held, Sane, Closed, Turns, OneKind, Ended, Finished}
+use Rattle.wrap.proofs.Lists.{last-drop}
+use Rattle.wrap.proofs.CursorBounds.{sane-last}
 use Rattle.wrap.proofs.LoopTurns.{code-there}
 use Rattle.wrap.proofs.NextToken.{onward, go-end, go-break, go-kind, go-token}
 
 abbrev pub start : Cursor
-start = record { lines = 0; start = 0; end = 0; kept = 0; columns = 0; «kept_columns» = 0 }
+start = record { lines = 0; start = 0; end = 0; kept = 0; columns = 0; «kept_columns» = 0; inked = 0 }
 
 pub start-sane : Sane start 0
 start-sane =
@@ -29,8 +32,10 @@ start-sane =
       end = omega arith;
       within = omega arith;
       columns = omega arith;
+      inked = omega arith;
       lines = omega arith;
       busy = λ z. absurd (omega arith);
+      some = λ z. absurd (omega arith);
     }
 
 -- i letters have been passed, and what is left comes to the same as all from the start
@@ -39,13 +44,39 @@ Sofar count limit ws i c ws' =
     (ls : List Letter) → count ≡ length ls → Holds ls ws
     → (g : Filling) × Held ls g c ws' × (filled ls limit ≡ onward ls limit g (between i (length ls)))
 
+-- the last line is closed where anything is left of it without its trailing spaces
+last-line : (ls : List Letter) (limit : ℕ) (g : Filling) {c c' : Cursor} {ws ws' : List ℕ} → Held ls g c ws → filled ls limit ≡ close g
+    → (b : Bool) → ltb (c .start) (c .kept) ≡ b → Held ls (closeIf b g) c' ws' → Ended ls limit c' ws'
+unfolding wrapRuns withoutLast
+last-line ls limit g held all true e next =
+    record { filling = close g; held = next; spaces = refl; lines = ap (λ (f : Filling). withoutLast isEmptyLine (done ls f)) (sym all) }
+last-line ls limit g {c} held all false e next =
+    let h = ltb-false (c .start) (c .kept) e in
+    let start = ap (λ (x : Cursor). x .start) (held .cursor) in
+    let kept = ap (λ (x : Cursor). x .kept) (held .cursor) in
+    let none : trimTrailingSpace ls (g .line) ≡ [] = no-letters _ (omega arith) in
+    record {
+      filling = g;
+      held = next;
+      spaces = none;
+      lines =
+          sym
+          (ap (λ (f : Filling). withoutLast isEmptyLine (done ls f)) all
+          ∙ ap (withoutLast isEmptyLine) (map-append (trimTrailingSpace ls) (g .closed) (g .line ∷ []))
+          ∙ last-drop isEmptyLine (done ls g) (trimTrailingSpace ls (g .line)) (ap isEmptyLine none));
+    }
+  where
+    no-letters : (l : Line) → length l ≡ 0 → l ≡ []
+    no-letters [] e = refl
+    no-letters (k ∷ l) e = absurd (omega arith)
+
 module _ (count limit : ℕ) (ws : List ℕ) where
   pub pass-none : Sofar count limit ws 0 start ws
-  unfolding onward visibleCols withoutLast flatten twos lineTable
+  unfolding onward visibleCols inkedLetters inkedTotals withoutLast flatten twos lineTable
   pass-none ls n h =
       let e : length ls - 0 ≡ length ls = omega arith in (
         noLines,
-        record { letters = h; cursor = refl; numbers = slice-empty numbersFrom ws; table = slice-empty tableFrom ws },
+        record { letters = h; cursor = refl; numbers = slice-empty numbersFrom ws; table = slice-empty tableFrom ws; inked = slice-empty inkedFrom ws },
         rw e,
       )
 
@@ -71,16 +102,13 @@ module _ (count limit : ℕ) (ws : List ℕ) where
               ∙ go-token ls limit i j ij (omega arith) is (u .0) (ne-eqb _ _ (λ z. e (sym (code-there (u .1 .letters) i (omega arith)) ∙ z))),
         )
 
-    pub pass-end : i ≡ count → Sane c i → Closed true c ws1 c' ws2 → Finished count limit ws c' ws2
+    pub pass-end : i ≡ count → Sane c i → Closed (ltb (c .start) (c .kept)) c ws1 c' ws2 → Finished count limit ws c' ws2
     pass-end e sane next =
-        let done : Sane (closed c) (i + 1) = sane-break c i sane in
-        let same = next .cursor in
         record {
-          sane = rw (same, ← e) done;
-          few = let h = sane .kept in let k = sane .end in rw same (omega arith);
-          held = λ ls n held.
+          sane = rw (next .cursor, ← e) (sane-last c i sane (ltb (c .start) (c .kept)) (λ q. ltb-true (c .start) (c .kept) q));
+          ended = λ ls n held.
               let u = sofar ls n held in
               let q : i ≡ length ls = omega arith in
               let ends : onward ls limit (u .0) (between i (length ls)) ≡ close (u .0) = rw q (go-end ls limit (u .0)) in
-              rw (u .2 ∙ ends) (next .held ls (u .0) (u .1));
+              last-line ls limit (u .0) (u .1) (u .2 ∙ ends) (ltb (c .start) (c .kept)) refl (next .held ls (u .0) (u .1));
         }

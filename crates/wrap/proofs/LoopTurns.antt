@@ -1,6 +1,6 @@
 -- What a turn of each reading loop finds.
 use mathlib.Core.Path.{_≡_, _∙_, refl, sym, ap}
-use mathlib.Core.Bool.{Bool, true, false}
+use mathlib.Core.Bool.{Bool, true, false, cond}
 use mathlib.Core.List.{List, [], _∷_, _++_}
 use Prim.Native.Nat.{ℕ, suc, _+_, _*_, _-_, _≤_, _<_}
 use native.Mathlib.Omega.{arith}
@@ -8,15 +8,19 @@ use lib.Dec.{eqb}
 use lib.ListN.{length, getD, take}
 use lib.Seq.{slice, take-suc}
 use borrow.Author.Tests.{eq-eqb, ne-eqb}
+use Rattle.font.specs.Ink.{isInked}
 use Rattle.tape.specs.Runs.{Letter}
 use Rattle.tape.specs.Stored.{letterAt, codeAt}
+use Rattle.wrap.specs.declared.token.Tally.{Tally}
 use Rattle.wrap.specs.Columns.{isSpace, isBlank, columnsOf}
 use Rattle.wrap.specs.Lines.{Line, withoutLast, letterOf, codeOf, isBlankLetter, visibleCols, trimTrailingSpace, isEmptyLine}
 use Rattle.wrap.specs.Wrap.{lineTable}
-use Rattle.wrap.specs.Laid.{tableFrom, twoAt, Holds}
-use Rattle.wrap.specs.Filled.{between, goesOn, more}
+use Rattle.wrap.specs.Shown.{inkedLetters}
+use Rattle.wrap.specs.Laid.{tableFrom, twoAt, inkedIn, Holds}
+use Rattle.wrap.specs.Filled.{between, goesOn, more, Tallied}
 use Rattle.wrap.proofs.Lists.{last-drop, last-keep, between-first, between-more}
 use Rattle.wrap.proofs.ColumnCounts.{cols-append, cols-one}
+use Rattle.wrap.proofs.InkCounts.{ink-append}
 use Rattle.wrap.proofs.TableBytes.{table-at, part-two}
 
 -- ---- letters
@@ -42,13 +46,30 @@ module _ {ls : List Letter} {ws : List ℕ} (held : Holds ls ws) where
     unfolding more
     scan-goes e = rw (between-first j (length ls) jn, goes-there, e)
 
-  pub columns-more : (i k : ℕ) → i ≤ k → k < length ls
+  columns-more : (i k : ℕ) → i ≤ k → k < length ls
       → visibleCols ls (between i k) + columnsOf (codeAt ws k) ≡ visibleCols ls (between i (k + 1))
   columns-more i k h n =
       ap (λ (x : ℕ). visibleCols ls (between i k) + columnsOf x) (sym (code-there k n))
       ∙ ap (λ (x : ℕ). visibleCols ls (between i k) + x) (sym (cols-one ls k))
       ∙ sym (cols-append ls (between i k) (k ∷ []))
       ∙ ap (visibleCols ls) (sym (between-more i k h))
+
+  ink-more : (i k : ℕ) → i ≤ k → k < length ls → inkedIn ls (between i k) + cond (isInked (codeAt ws k)) 1 0 ≡ inkedIn ls (between i (k + 1))
+  unfolding inkedLetters
+  ink-more i k h n =
+      ap (λ (x : ℕ). inkedIn ls (between i k) + cond (isInked x) 1 0) (sym (code-there k n))
+      ∙ ap (λ (x : ℕ). inkedIn ls (between i k) + x) (omega arith)
+      ∙ sym (ink-append ls (between i k) (k ∷ []))
+      ∙ ap (inkedIn ls) (sym (between-more i k h))
+
+  -- letter k is counted with those before
+  pub tally-more : (i k : ℕ) (t r : Tally) → i ≤ k → k < length ls → Tallied t i k ls
+      → r .columns ≡ t .columns + columnsOf (codeAt ws k) → r .inked ≡ t .inked + cond (isInked (codeAt ws k)) 1 0 → Tallied r i (k + 1) ls
+  tally-more i k t r h n sofar columns inked =
+      record {
+        columns = columns ∙ ap (λ (x : ℕ). x + columnsOf (codeAt ws k)) (sofar .columns) ∙ columns-more i k h n;
+        inked = inked ∙ ap (λ (x : ℕ). x + cond (isInked (codeAt ws k)) 1 0) (sofar .inked) ∙ ink-more i k h n;
+      }
 
   -- whether the last letter is a space
   module _ (i end : ℕ) (h : i < end) (n : end ≤ length ls) where

@@ -9,10 +9,11 @@ use Rattle.tape.specs.Command.{mostLetters}
 use Rattle.tape.specs.Runs.{Letter}
 use Rattle.tape.specs.Tape.{leastRoom}
 use Rattle.wrap.specs.declared.line.Cursor.{Cursor}
+use Rattle.wrap.specs.declared.token.Tally.{Tally}
 use Rattle.wrap.specs.Columns.{isBreak, isBlank}
-use Rattle.wrap.specs.Lines.{Line, Filling, upFrom, letterOf, codeOf, isBlankLetter, visibleCols, isSpaceToken, closeIf, filled, trimTrailingSpace, isEmptyLine}
+use Rattle.wrap.specs.Lines.{Line, Filling, upFrom, letterOf, codeOf, isBlankLetter, visibleCols, isSpaceToken, closeIf, trimTrailingSpace, isEmptyLine, withoutLast, wrapRuns}
 use Rattle.wrap.specs.Wrap.{mostColumns, twos, lineTable}
-use Rattle.wrap.specs.Laid.{numbersFrom, tableFrom, Holds}
+use Rattle.wrap.specs.Laid.{numbersFrom, tableFrom, inkedFrom, inkedIn, inkedTotals, Holds}
 
 -- the letters from i to j
 abbrev pub between : ℕ → ℕ → Line
@@ -48,10 +49,11 @@ cursorOf ls f =
       kept = letters + length kept;
       columns = visibleCols ls (f .line);
       «kept_columns» = visibleCols ls kept;
+      inked = inkedIn ls (flatten (done ls f)) + inkedIn ls (f .line);
     }
 
 abbrev pub closed : Cursor → Cursor
-closed c = record { lines = c .lines + 1; start = c .kept; end = c .kept; kept = c .kept; columns = 0; «kept_columns» = 0 }
+closed c = record { lines = c .lines + 1; start = c .kept; end = c .kept; kept = c .kept; columns = 0; «kept_columns» = 0; inked = c .inked }
 
 -- after a token more, of which these letters are kept
 abbrev pub added : List Letter → Cursor → Line → Line → Cursor
@@ -63,6 +65,7 @@ added ls c t kept =
       kept = cond (isEmptyLine kept) (c .kept) (c .end + length kept);
       columns = c .columns + visibleCols ls t;
       «kept_columns» = cond (isEmptyLine kept) (c .«kept_columns») (c .columns + visibleCols ls kept);
+      inked = c .inked + inkedIn ls t;
     }
 
 -- the cursor and the workspace hold a filling
@@ -71,6 +74,7 @@ pub record Held (ls : List Letter) (f : Filling) (c : Cursor) (ws : List ℕ) : 
   pub cursor : c ≡ cursorOf ls f
   pub numbers : slice numbersFrom (numbersFrom + 2 * c .end) ws ≡ twos (flatten (done ls f) ++ f .line)
   pub table : slice tableFrom (tableFrom + 4 * c .lines) ws ≡ lineTable ls (done ls f)
+  pub inked : slice inkedFrom (inkedFrom + 2 * c .lines) ws ≡ twos (inkedTotals ls 0 (done ls f))
 
 -- ---- what is asked
 
@@ -81,8 +85,10 @@ pub record Sane (c : Cursor) (i : ℕ) : Type 0 where
   pub end : c .end ≤ i
   pub within : c .«kept_columns» ≤ i
   pub columns : c .columns ≤ i
+  pub inked : c .inked ≤ i
   pub lines : c .lines ≤ i
   pub busy : 0 < c .columns → c .lines < i
+  pub some : c .start < c .kept → c .lines < i
 
 -- the letters from i to j are next
 pub record Ready (c : Cursor) (ws : List ℕ) (i j limit : ℕ) : Type 0 where
@@ -111,16 +117,23 @@ pub record Turns (known : List Letter → Type 0) (step : List Letter → Fillin
 abbrev pub Any : List Letter → Type 0
 Any ls = Unit
 
--- so many columns are those of the letters from i to j
-abbrev pub Wide : ℕ → ℕ → ℕ → List Letter → Type 0
-Wide columns i j ls = columns ≡ visibleCols ls (between i j)
+-- a tally of the letters from i to j
+pub record Tallied (t : Tally) (i j : ℕ) (ls : List Letter) : Type 0 where
+  pub columns : t .columns ≡ visibleCols ls (between i j)
+  pub inked : t .inked ≡ inkedIn ls (between i j)
 
 -- these letters are all of one kind, that of the first
 abbrev pub OneKind : ℕ → ℕ → List Letter → Type 0
 OneKind i j ls = isSpaceToken ls (between i j) ≡ isBlankLetter ls i
 
--- all letters have been passed, and every line is closed
+-- every line that the caption keeps is closed: of the last there is nothing left but spaces
+pub record Ended (ls : List Letter) (limit : ℕ) (c : Cursor) (ws : List ℕ) : Type 0 where
+  pub filling : Filling
+  pub held : Held ls filling c ws
+  pub spaces : trimTrailingSpace ls (filling .line) ≡ []
+  pub lines : withoutLast isEmptyLine (done ls filling) ≡ wrapRuns ls limit
+
+-- all letters have been passed
 pub record Finished (count limit : ℕ) (ws : List ℕ) (c : Cursor) (ws' : List ℕ) : Type 0 where
-  pub sane : Sane c (count + 1)
-  pub few : c .end ≤ count
-  pub held : (ls : List Letter) → count ≡ length ls → Holds ls ws → Held ls (filled ls limit) c ws'
+  pub sane : Sane c count
+  pub ended : (ls : List Letter) → count ≡ length ls → Holds ls ws → Ended ls limit c ws'

@@ -7,9 +7,10 @@ ghost use Rattle.tape.specs.Runs.{Letter};
 ghost use Rattle.tape.specs.Tape.{leastRoom};
 ghost use Rattle.wrap.specs.Lines.{Filling, hardBreak, putChunk, putChunks, addOrBreak, putToken};
 ghost use Rattle.wrap.specs.Wrap.{mostColumns};
-ghost use Rattle.wrap.specs.Filled.{between, Ready, Turns, Any, Wide, OneKind, Finished};
+ghost use Rattle.wrap.specs.Filled.{between, Ready, Turns, Any, Tallied, OneKind, Finished};
 use crate::line::Cursor;
 use crate::token;
+use crate::token::Tally;
 use tape::letter;
 
 // One chunk of a token that is too long for a line.
@@ -17,9 +18,9 @@ fn put_chunk(ws: &mut [u8], line: Cursor, i: usize, j: usize, limit: usize) -> C
     requires { ⌜ Ready line (now ws) i j limit ⌝ }
     ensures { λ r. ⌜ Turns Any (λ (ls : List Letter) (f : Filling). putChunk ls limit f (between i j)) j line (now (ws .entry)) r (now (ws .exit)) ⌝ }
 {
-    let columns = token::visible_cols(ws, i, j);
+    let t = token::tally_of(ws, i, j);
     let next = line.close_if(ws, 0 < line.columns);
-    let filled = next.add(ws, i, j, columns);
+    let filled = next.add(ws, i, j, t);
     filled.close_if(ws, limit <= filled.columns)
 }
 
@@ -37,22 +38,15 @@ fn hard_break(ws: &mut [u8], line: Cursor, i: usize, j: usize, limit: usize) -> 
     put_chunk(ws, filled, k, j, limit)
 }
 
-// Rules 3 and 4: the token from i up to j, of so many columns, on the line or in chunks.
-fn add_or_break(
-    ws: &mut [u8],
-    line: Cursor,
-    i: usize,
-    j: usize,
-    columns: usize,
-    limit: usize,
-) -> Cursor
-    requires { ⌜ Ready line (now ws) i j limit × (columns ≤ j - i) ⌝ }
-    ensures { λ r. ⌜ Turns (Wide columns i j) (λ (ls : List Letter) (f : Filling). addOrBreak ls limit f (between i j)) j line (now (ws .entry)) r (now (ws .exit)) ⌝ }
+// Rules 3 and 4: the token from i up to j on the line, or in chunks.
+fn add_or_break(ws: &mut [u8], line: Cursor, i: usize, j: usize, t: Tally, limit: usize) -> Cursor
+    requires { ⌜ Ready line (now ws) i j limit × (t .columns ≤ j - i) × (t .inked ≤ j - i) ⌝ }
+    ensures { λ r. ⌜ Turns (Tallied t i j) (λ (ls : List Letter) (f : Filling). addOrBreak ls limit f (between i j)) j line (now (ws .entry)) r (now (ws .exit)) ⌝ }
 {
-    if limit < columns {
+    if limit < t.columns {
         return hard_break(ws, line, i, j, limit);
     }
-    line.add(ws, i, j, columns)
+    line.add(ws, i, j, t)
 }
 
 // Rules 1 to 4: the token from i up to j. A space token is dropped before any columns, be the line
@@ -61,18 +55,19 @@ fn put_token(ws: &mut [u8], line: Cursor, i: usize, j: usize, limit: usize) -> C
     requires { ⌜ Ready line (now ws) i j limit ⌝ }
     ensures { λ r. ⌜ Turns (OneKind i j) (λ (ls : List Letter) (f : Filling). putToken ls limit f (between i j)) j line (now (ws .entry)) r (now (ws .exit)) ⌝ }
 {
-    let columns = token::visible_cols(ws, i, j);
-    if columns == 0 {
+    let t = token::tally_of(ws, i, j);
+    if t.columns == 0 {
         return line;
     }
-    let next = line.close_if(ws, line.passes(columns, limit));
+    let next = line.close_if(ws, line.passes(t.columns, limit));
     if next.drops(token::is_blank_letter(ws, i)) {
         return next;
     }
-    add_or_break(ws, next, i, j, columns, limit)
+    add_or_break(ws, next, i, j, t, limit)
 }
 
-// All letters, a break or a token after the other.
+// All letters, a break or a token after the other. The last line is closed where it has letters: one
+// without would go, standing at the end.
 pub fn fill(ws: &mut [u8], count: usize, limit: usize) -> Cursor
     requires { ⌜ (count ≤ mostLetters) × (1 ≤ limit) × (limit ≤ mostColumns) × (leastRoom ≤ length (now ws)) ⌝ }
     ensures { λ r. ⌜ Finished count limit (now (ws .entry)) r (now (ws .exit)) ⌝ }
@@ -84,6 +79,7 @@ pub fn fill(ws: &mut [u8], count: usize, limit: usize) -> Cursor
         kept: 0,
         columns: 0,
         kept_columns: 0,
+        inked: 0,
     };
     let mut i: usize = 0;
     while i < count {
@@ -96,5 +92,5 @@ pub fn fill(ws: &mut [u8], count: usize, limit: usize) -> Cursor
             i = j;
         }
     }
-    line.close(ws)
+    line.close_if(ws, line.start < line.kept)
 }

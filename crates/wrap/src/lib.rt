@@ -1,8 +1,8 @@
 // Lines: the letters of a cue, which lie in a lent workspace, are put on lines by their numbers.
 // Carried over from `wrap_runs` of src/compositor.rs of oxideav-subtitle; what lines letters make is
 // in specs/. `ws` is the workspace throughout: letters from its start, the numbers of the letters on
-// lines from `laid::NUMBERS`, two bytes each, and the table of lines from `laid::TABLE`, four bytes
-// each.
+// lines from `laid::NUMBERS`, two bytes each, the table of lines from `laid::TABLE`, four bytes each,
+// and from `laid::INKED`, two bytes for each line, how many letters with ink are on the lines so far.
 mod fill;
 pub mod laid;
 mod line;
@@ -26,10 +26,11 @@ use tape::Style;
 
 const MOST_COLUMNS: u32 = 4096;
 
-// How many lines there are, and letters on them.
+// How many lines there are, letters on them, and letters with ink.
 pub struct Lines {
     pub lines: usize,
     pub letters: usize,
+    pub inked: usize,
 }
 
 fn is_empty_line(ws: &[u8], line: usize) -> bool
@@ -57,12 +58,13 @@ fn drop_empty_lines(ws: &[u8], lines: usize) -> usize
 // Puts the letters of the workspace on lines of at most `limit` columns.
 pub fn wrap_runs(ws: &mut [u8], count: usize, limit: usize) -> Lines
     requires { ⌜ (count ≤ mostLetters) × (1 ≤ limit) × (limit ≤ mostColumns) × (leastRoom ≤ length (now ws)) ⌝ }
-    ensures { λ r. ⌜ (r .lines ≤ count + 1) × (r .letters ≤ count) × ((ls : List Letter) → count ≡ length ls → Holds ls (now (ws .entry)) → Laid ls limit r (now (ws .exit))) ⌝ }
+    ensures { λ r. ⌜ (r .lines ≤ count) × (r .letters ≤ count) × (r .inked ≤ count) × ((ls : List Letter) → count ≡ length ls → Holds ls (now (ws .entry)) → Laid ls limit r (now (ws .exit))) ⌝ }
 {
     let end = fill::fill(ws, count, limit);
     Lines {
         lines: drop_empty_lines(ws, end.lines),
-        letters: end.end,
+        letters: end.start,
+        inked: end.inked,
     }
 }
 

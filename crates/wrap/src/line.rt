@@ -12,10 +12,12 @@ ghost use Rattle.tape.specs.Tape.{leastRoom};
 ghost use Rattle.wrap.specs.Lines.{Filling, add, trimTrailingSpace};
 ghost use Rattle.wrap.specs.Wrap.{mostColumns, two, twos};
 ghost use Rattle.wrap.specs.Laid.{twoByteNumbers, Holds};
-ghost use Rattle.wrap.specs.Filled.{between, added, Sane, Closed, Turns, Wide};
+ghost use Rattle.wrap.specs.Filled.{between, added, Sane, Closed, Turns, Tallied};
+use crate::laid::INKED;
 use crate::laid::NUMBERS;
 use crate::laid::TABLE;
 use crate::token;
+use crate::token::Tally;
 
 fn put_two(ws: &mut [u8], at: usize, v: usize)
     requires { ⌜ (at + 2 ≤ length (now ws)) × (v < twoByteNumbers) ⌝ }
@@ -38,7 +40,8 @@ fn put_numbers(ws: &mut [u8], at: usize, i: usize, j: usize)
 }
 
 // How many lines are closed; among the numbers, where the line being filled starts, where it ends,
-// and where it ends without its trailing spaces; its columns, and those without these spaces.
+// and where it ends without its trailing spaces; its columns, and those without these spaces; and how
+// many letters with ink are on it and the lines before.
 pub struct Cursor {
     pub lines: usize,
     pub start: usize,
@@ -46,17 +49,19 @@ pub struct Cursor {
     pub kept: usize,
     pub columns: usize,
     pub kept_columns: usize,
+    pub inked: usize,
 }
 
 impl Cursor {
     // Closes the line: it goes into the table without its trailing spaces.
     pub fn close(self, ws: &mut [u8]) -> Cursor
-        requires { ⌜ Sane self mostLetters × (leastRoom ≤ length (now ws)) ⌝ }
+        requires { ⌜ Sane self mostLetters × (self .lines < mostLetters) × (leastRoom ≤ length (now ws)) ⌝ }
         ensures { λ r. ⌜ Closed true self (now (ws .entry)) r (now (ws .exit)) ⌝ }
     {
         let at = TABLE + 4 * self.lines;
         put_two(ws, at, self.kept - self.start);
         put_two(ws, at + 2, self.kept_columns);
+        put_two(ws, INKED + 2 * self.lines, self.inked);
         Cursor {
             lines: self.lines + 1,
             start: self.kept,
@@ -64,25 +69,27 @@ impl Cursor {
             kept: self.kept,
             columns: 0,
             kept_columns: 0,
+            inked: self.inked,
         }
     }
 
     // Closes the line where it is full.
     pub fn close_if(self, ws: &mut [u8], full: bool) -> Cursor
-        requires { ⌜ Sane self mostLetters × (leastRoom ≤ length (now ws)) ⌝ }
+        requires { ⌜ Sane self mostLetters × (full ≡ true → self .lines < mostLetters) × (leastRoom ≤ length (now ws)) ⌝ }
         ensures { λ r. ⌜ Closed full self (now (ws .entry)) r (now (ws .exit)) ⌝ }
     {
         if full { self.close(ws) } else { self }
     }
 
-    // The cursor behind the letters from i up to j, of so many columns.
-    fn behind(self, ws: &[u8], i: usize, j: usize, columns: usize) -> Cursor
-        requires { ⌜ Sane self i × (i < j) × (j ≤ mostLetters) × (columns ≤ j - i) × (8 * j ≤ length (now ws)) ⌝ }
-        ensures { λ r. ⌜ Sane r j × ((ls : List Letter) → j ≤ length ls → Wide columns i j ls → Holds ls (now (ws .entry)) → r ≡ added ls self (between i j) (trimTrailingSpace ls (between i j))) ⌝ }
+    // The cursor behind the letters from i up to j.
+    fn behind(self, ws: &[u8], i: usize, j: usize, t: Tally) -> Cursor
+        requires { ⌜ Sane self i × (i < j) × (j ≤ mostLetters) × (t .columns ≤ j - i) × (t .inked ≤ j - i) × (8 * j ≤ length (now ws)) ⌝ }
+        ensures { λ r. ⌜ Sane r j × ((ls : List Letter) → j ≤ length ls → Tallied t i j ls → Holds ls (now (ws .entry)) → r ≡ added ls self (between i j) (trimTrailingSpace ls (between i j))) ⌝ }
     {
         let after = Cursor {
             end: self.end + (j - i),
-            columns: self.columns + columns,
+            columns: self.columns + t.columns,
+            inked: self.inked + t.inked,
             ..self
         };
         let trimmed = token::trim_trailing_space(ws, i, j);
@@ -94,21 +101,22 @@ impl Cursor {
             };
         }
         if i < trimmed {
+            let some = token::tally_of(ws, i, trimmed);
             return Cursor {
                 kept: self.end + (trimmed - i),
-                kept_columns: self.columns + token::visible_cols(ws, i, trimmed),
+                kept_columns: self.columns + some.columns,
                 ..after
             };
         }
         after
     }
 
-    // Adds the letters from i up to j, of so many columns, to the line.
-    pub fn add(self, ws: &mut [u8], i: usize, j: usize, columns: usize) -> Cursor
-        requires { ⌜ Sane self i × (i < j) × (j ≤ mostLetters) × (columns ≤ j - i) × (leastRoom ≤ length (now ws)) ⌝ }
-        ensures { λ r. ⌜ Turns (Wide columns i j) (λ (ls : List Letter) (f : Filling). add f (between i j)) j self (now (ws .entry)) r (now (ws .exit)) ⌝ }
+    // Adds the letters from i up to j to the line.
+    pub fn add(self, ws: &mut [u8], i: usize, j: usize, t: Tally) -> Cursor
+        requires { ⌜ Sane self i × (i < j) × (j ≤ mostLetters) × (t .columns ≤ j - i) × (t .inked ≤ j - i) × (leastRoom ≤ length (now ws)) ⌝ }
+        ensures { λ r. ⌜ Turns (Tallied t i j) (λ (ls : List Letter) (f : Filling). add f (between i j)) j self (now (ws .entry)) r (now (ws .exit)) ⌝ }
     {
-        let after = self.behind(ws, i, j, columns);
+        let after = self.behind(ws, i, j, t);
         put_numbers(ws, NUMBERS + 2 * self.end, i, j);
         after
     }

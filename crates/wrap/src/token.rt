@@ -1,14 +1,17 @@
 // Letters and tokens: stretches of letters in the workspace, from number `i` up to `j`.
 ghost use mathlib.Core.Path.{_≡_};
+ghost use mathlib.Core.Bool.{cond};
 ghost use mathlib.Core.List.{List};
 ghost use Prim.Native.Nat.{_+_, _*_, _-_, _≤_, _<_};
 ghost use lib.ListN.{length};
+ghost use Rattle.font.specs.Ink.{isInked};
+ghost use Rattle.tape.specs.Command.{mostLetters};
 ghost use Rattle.tape.specs.Runs.{Letter};
 ghost use Rattle.tape.specs.Stored.{letterAt, codeAt};
 ghost use Rattle.wrap.specs.Columns.{isBlank, isControl, columnsOf};
 ghost use Rattle.wrap.specs.Lines.{trimTrailingSpace};
-ghost use Rattle.wrap.specs.Laid.{Holds};
-ghost use Rattle.wrap.specs.Filled.{between, goesOn, endOf, Wide};
+ghost use Rattle.wrap.specs.Laid.{twoByteNumbers, Holds};
+ghost use Rattle.wrap.specs.Filled.{between, goesOn, endOf, Tallied};
 use tape::letter;
 
 fn is_blank(c: u32) -> bool
@@ -74,17 +77,45 @@ pub fn tokenise(ws: &[u8], i: usize, count: usize) -> usize
     j
 }
 
-pub fn visible_cols(ws: &[u8], i: usize, j: usize) -> usize
-    requires { ⌜ (i ≤ j) × (8 * j ≤ length (now ws)) ⌝ }
-    ensures { λ r. ⌜ (r ≤ j - i) × ((ls : List Letter) → j ≤ length ls → Holds ls (now (ws .entry)) → Wide r i j ls) ⌝ }
+// What letters come to: their columns, and how many of them have ink.
+pub struct Tally {
+    pub columns: usize,
+    pub inked: usize,
+}
+
+impl Tally {
+    // With a letter more. One with ink has a column, so that others alone are asked for theirs.
+    fn with(self, c: u32) -> Tally
+        requires { ⌜ (self .columns < twoByteNumbers) × (self .inked < twoByteNumbers) ⌝ }
+        ensures { λ r. ⌜ (r .columns ≡ self .columns + columnsOf c) × (r .inked ≡ self .inked + cond (isInked c) 1 0) ⌝ }
+    {
+        if font::has_ink(c) {
+            return Tally {
+                columns: self.columns + 1,
+                inked: self.inked + 1,
+            };
+        }
+        Tally {
+            columns: self.columns + columns(c),
+            ..self
+        }
+    }
+}
+
+pub fn tally_of(ws: &[u8], i: usize, j: usize) -> Tally
+    requires { ⌜ (i ≤ j) × (j ≤ mostLetters) × (8 * j ≤ length (now ws)) ⌝ }
+    ensures { λ r. ⌜ (r .columns ≤ j - i) × (r .inked ≤ j - i) × ((ls : List Letter) → j ≤ length ls → Holds ls (now (ws .entry)) → Tallied r i j ls) ⌝ }
 {
-    let mut cols: usize = 0;
+    let mut t = Tally {
+        columns: 0,
+        inked: 0,
+    };
     let mut k = i;
     while k < j {
-        cols += columns(letter::code(ws, k));
+        t = t.with(letter::code(ws, k));
         k += 1;
     }
-    cols
+    t
 }
 
 // Where these letters end without their trailing spaces.

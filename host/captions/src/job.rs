@@ -125,7 +125,7 @@ impl<'a> Job<'a> {
         self.record
     }
 
-    /// How many strokes the cue has.
+    /// How many strokes the cue has, as [`draw`](crate::draw) counts them.
     pub fn total(&self) -> u32 {
         self.total
     }

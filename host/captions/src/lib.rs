@@ -10,7 +10,7 @@
 //! let settings = Settings::new(320, 180);
 //! let mut picture = settings.new_picture();
 //! let strokes = draw(&settings, b"\x02H\x02i", &mut Workspace::new(), &mut picture)?;
-//! assert_eq!(strokes, 2 * 9); // an outline of one pixel is eight strokes a letter
+//! assert_eq!(strokes, 2 * 9); // two letters with ink, each with eight for its outline
 //! # Ok::<(), captions::Refusal>(())
 //! ```
 
@@ -37,6 +37,10 @@ pub const TAPE_MAX: usize = 16_384;
 pub const LETTERS_MAX: usize = 4_096;
 
 /// Draws a tape's cue on a cleared picture, and answers how many strokes it took.
+///
+/// A letter on a line that has ink is one stroke, and eight more for each pixel of outline up to 2.
+/// One without ink has none: a space, a control, the no-break space and the soft hyphen. Whether a
+/// stroke can be seen makes no difference.
 ///
 /// `picture` begins with the picture: its rows from the top, each its pixels from the left, four
 /// bytes a pixel, red, green, blue and alpha. The bytes after it stay.

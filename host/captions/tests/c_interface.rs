@@ -75,7 +75,7 @@ fn written(program: &Path) -> String {
     written.into_owned()
 }
 
-const CALLER: &str = "297 checks passed\n";
+const CALLER: &str = "310 checks passed\n";
 
 #[test]
 fn a_caller_in_c() {
@@ -270,7 +270,7 @@ fn the_header_has_the_names_of_the_wrapper() {
 fn the_header_has_the_numbers_of_the_wrapper() {
     let header = read(HEADER);
     let numbers = [
-        ("#define CAPTIONS_VERSION", 2),
+        ("#define CAPTIONS_VERSION", 3),
         ("#define CAPTIONS_TAPE_MAX", TAPE_MAX as u32),
         ("#define CAPTIONS_WORKSPACE_MIN", WORKSPACE_BYTES as u32),
         ("#define CAPTIONS_SIDE_MAX", SIDE_MAX),

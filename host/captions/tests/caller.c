@@ -179,7 +179,7 @@ static void check_draw(void)
     memset(picture, PAINT, sizeof picture);
     uint64_t drawn = draw(&c);
     check(captions_refused(drawn) == 0, "Draw: is accepted");
-    check(captions_answer(drawn) == GREETING_LETTERS * 9, "Draw: answers nine strokes a letter");
+    check(captions_answer(drawn) == GREETING_LETTERS * 9, "Draw: nine strokes a letter with ink");
     check(pixels_of(0) > 0, "Draw: clears the picture");
     check(pixels_of(c.settings.default_color) > 0, "Draw: letters have the default color");
     check(pixels_of(c.settings.outline_color) > 0, "Draw: outlines have the outline color");
@@ -273,23 +273,44 @@ static void check_job(void)
     check(memcmp(picture, drawn, sizeof picture) == 0, "Work: the picture is what Draw leaves");
 }
 
+/* Whether Draw makes one picture of two tapes with this call's settings. */
+static int draws_alike(struct call c, const uint8_t *one, size_t one_len, const uint8_t *other,
+                       size_t other_len)
+{
+    static uint8_t drawn[sizeof picture];
+    c.tape = one;
+    c.tape_len = one_len;
+    uint64_t strokes = draw(&c);
+    memcpy(drawn, picture, sizeof picture);
+    c.tape = other;
+    c.tape_len = other_len;
+    return draw(&c) == strokes && memcmp(picture, drawn, sizeof picture) == 0;
+}
+
 /* Where the default color is not white, Draw may make other lines than Wrap. */
 static void check_lines_of_colors(void)
 {
     static const uint8_t tape[] = {
         CAPTIONS_LETTER_1, 'X', CAPTIONS_LETTER_1, ' ', CAPTIONS_LETTER_1, 'A',
         CAPTIONS_COLOR, 0xFF, 0xFF, 0xFF, CAPTIONS_LETTER_1, 'B', CAPTIONS_END};
+    static const uint8_t broken_before_a[] = {
+        CAPTIONS_LETTER_1, 'X', CAPTIONS_BREAK, CAPTIONS_LETTER_1, 'A',
+        CAPTIONS_COLOR, 0xFF, 0xFF, 0xFF, CAPTIONS_LETTER_1, 'B', CAPTIONS_END};
+    static const uint8_t broken_before_b[] = {
+        CAPTIONS_LETTER_1, 'X', CAPTIONS_LETTER_1, ' ', CAPTIONS_LETTER_1, 'A', CAPTIONS_BREAK,
+        CAPTIONS_COLOR, 0xFF, 0xFF, 0xFF, CAPTIONS_LETTER_1, 'B', CAPTIONS_END};
     struct call c = good_call();
     captions_wrap(tape, sizeof tape, workspace, sizeof workspace, 3);
     check(workspace[1] == 1 && workspace[5] == 2, "Wrap: X, and then AB");
-    c.tape = tape;
-    c.tape_len = sizeof tape;
     c.settings.width = 3 * 8;
-    c.settings.outline = 0;
     c.settings.default_color = 0xFFFFFFFF;
-    check(captions_answer(draw(&c)) == 3, "Draw: X and AB, in white, are three letters");
+    check(draws_alike(c, tape, sizeof tape, broken_before_a, sizeof broken_before_a),
+          "Draw: X and AB, in white");
     c.settings.default_color = 0x00FF00FF;
-    check(captions_answer(draw(&c)) == 4, "Draw: X A and B, of two colors, are four");
+    check(draws_alike(c, tape, sizeof tape, broken_before_b, sizeof broken_before_b),
+          "Draw: X A and B, of two colors");
+    check(!draws_alike(c, tape, sizeof tape, broken_before_a, sizeof broken_before_a),
+          "Draw: X A and B are not X and AB");
 }
 
 /* A job goes on in another process from its record and its picture. */
@@ -395,6 +416,32 @@ static void new_record(uint32_t stripe_height)
 {
     memset(&record, 0, sizeof record);
     record.stripe_height = stripe_height;
+}
+
+/* A letter without ink stands in its cell and has no strokes. */
+static void check_letters_without_ink(void)
+{
+    static const uint8_t control_between[] = {
+        CAPTIONS_LETTER_1, 'A', CAPTIONS_LETTER_1, 0x01, CAPTIONS_LETTER_1, 'B'};
+    static const uint8_t without_ink[] = {CAPTIONS_LETTER_1, 0xA0, CAPTIONS_LETTER_1, 0xAD};
+    struct call c = good_call();
+    c.tape = control_between;
+    c.tape_len = sizeof control_between;
+    check(draw(&c) == 18, "Draw: the letters A, 01 and B have eighteen strokes");
+    new_record(STRIPE_HEIGHT);
+    record.counters[0] = 18;
+    check(work(&c, 0, BUDGET) == 0, "Work: eighteen are all");
+    record.counters[0] = 19;
+    check_work_refused(&c, 0, CAPTIONS_COUNTERS_UNSOUND, 0);
+    record.counters[0] = 27;
+    check_work_refused(&c, 0, CAPTIONS_COUNTERS_UNSOUND, 0);
+
+    c.tape = without_ink;
+    c.tape_len = sizeof without_ink;
+    check(draw(&c) == 0, "Draw: a no-break space and a soft hyphen have no strokes");
+    check(open_job(&c, STRIPE_HEIGHT) == 0, "Open: nor has their job");
+    check(work(&c, 3, BUDGET) == 0, "Work: which has nothing to do");
+    check(is_all(picture, PICTURE_BYTES, 0), "Work: and leaves a clear picture");
 }
 
 static void check_refused(const struct call *c, uint32_t number, uint32_t place)
@@ -529,6 +576,7 @@ int main(void)
     check_alignments();
     check_glyph_modes();
     check_lines_of_colors();
+    check_letters_without_ink();
     check_job();
     check_stored();
     check_empty();

@@ -64,17 +64,61 @@ fn case_k_what_is_admitted() {
     assert_eq!(lines(&[4, 0x10, 0xFF, 0xFF], 4), [(vec![0], 1)]);
 }
 
+/// How many strokes a tape has with an outline.
+fn strokes(outline_px: u32, tape: &[u8]) -> u32 {
+    let settings = Settings {
+        outline_px,
+        ..Settings::new(64, 32)
+    };
+    let mut picture = settings.new_picture();
+    let strokes = draw(&settings, tape, &mut Workspace::new(), &mut picture);
+    strokes.expect("the tape is admitted")
+}
+
 #[test]
 fn case_l_strokes() {
-    let strokes = |outline_px| {
-        let settings = Settings {
-            outline_px,
-            ..Settings::new(64, 32)
-        };
+    let strokes = |outline| strokes(outline, &tape("AB"));
+    assert_eq!([0, 1, 2, 9].map(strokes), [2, 18, 34, 34]);
+}
+
+/// The strokes of A, a letter and B with an outline of 1, and in bold with one of 2.
+fn strokes_between(letter: char) -> [u32; 2] {
+    let plain = tape(&format!("A{letter}B"));
+    let bold = [&[6], &plain[..], &[0]].concat();
+    [strokes(1, &plain), strokes(2, &bold)]
+}
+
+#[test]
+fn letters_without_ink_have_no_strokes() {
+    assert_eq!(strokes(1, &tape("A\u{1}B")), 18);
+    for code in (0x00..=0x20).chain(0x7F..=0xA0).chain([0xAD]) {
+        let letter = char::from(code);
+        assert_eq!(strokes_between(letter), [2 * 9, 2 * 17], "{letter:?}");
+    }
+}
+
+#[test]
+fn letters_beside_them_have_strokes() {
+    for letter in "!~\u{A1}\u{AC}\u{AE}\u{FF}\u{100}\u{1AD}\u{20A0}".chars() {
+        assert_eq!(strokes_between(letter), [3 * 9, 3 * 17], "{letter:?}");
+    }
+}
+
+#[test]
+fn strokes_that_cannot_be_seen_count() {
+    let draw = |settings: &Settings, text| {
         let mut picture = settings.new_picture();
-        draw(&settings, &tape("AB"), &mut Workspace::new(), &mut picture)
+        let answer = draw(settings, &tape(text), &mut Workspace::new(), &mut picture);
+        assert!(picture.iter().all(|&byte| byte == 0));
+        answer
     };
-    assert_eq!([0, 1, 2, 9].map(strokes), [Ok(2), Ok(18), Ok(34), Ok(34)]);
+    let clear = Settings {
+        default_color: [1, 2, 3, 0],
+        ..plain(16, 16)
+    };
+    assert_eq!(draw(&clear, "A"), Ok(1));
+    // These start right of the last column.
+    assert_eq!(draw(&plain(8, 16), "AB"), Ok(2));
 }
 
 #[test]

@@ -2,12 +2,12 @@
 
 mod common;
 
-use captions::{Cause, GlyphMode, Job, Refusal, Settings, Workspace, draw};
+use captions::{Cause, GlyphMode, Job, Refusal, Settings, Workspace, draw, wrap};
 use common::{PAINT, Random, painted, plain, tape};
 
 const AFTER: usize = 8;
 
-/// Two lines that cross the stripes below, with an outline: 9 strokes a letter.
+/// Two lines that cross the stripes below, of letters with ink and an outline: 9 strokes each.
 fn cue() -> (Settings, Vec<u8>, u32) {
     let settings = Settings {
         outline_px: 1,
@@ -195,6 +195,63 @@ fn strokes_one_by_one_change_the_picture_bit_by_bit() {
         assert!(columns.iter().all(|column| column / 8 == letters));
     }
     assert_eq!(job.picture(), &drawn(&settings, &tape)[..48 * 16 * 4]);
+}
+
+/// Letters without ink have cells and no strokes: no Work goes to a space, a tab or a control.
+#[test]
+fn strokes_go_to_letters_with_ink_alone() {
+    let settings = plain(64, 16);
+    let tape = tape("H H\u{1}\tH\u{AD}");
+    let mut picture = settings.new_picture();
+    let workspace = &mut Workspace::new();
+    let mut job = Job::open(&settings, &tape, workspace, &mut picture, 16).unwrap();
+    assert_eq!(job.total(), 3);
+    for cell in [1, 3, 6] {
+        let before = job.picture().to_vec();
+        assert_eq!(job.work(workspace, 0, 1), Ok(1));
+        let changed = (0..before.len()).filter(|&at| before[at] != job.picture()[at]);
+        let columns: Vec<usize> = changed.map(|at| at / 4 % 64).collect();
+        assert!(!columns.is_empty());
+        assert!(columns.iter().all(|column| column / 8 == cell));
+    }
+    assert_eq!(job.work(workspace, 0, 1), Ok(0));
+    assert_eq!(job.picture(), &drawn(&settings, &tape)[..64 * 16 * 4]);
+}
+
+#[test]
+fn counters_of_words_end_at_their_strokes() {
+    let (settings, ..) = cue();
+    let tape = tape("to be,\nor\tnot to\u{A0}be");
+    let mut picture = painted(&settings, AFTER);
+    let workspace = &mut Workspace::new();
+    let mut job = Job::open(&settings, &tape, workspace, &mut picture, 8).unwrap();
+    assert_eq!(job.total(), 14 * 9);
+    for stripe in 0..job.stripes() {
+        let done: Vec<_> = (0..19).map(|_| job.work(workspace, stripe, 7)).collect();
+        assert_eq!(done, [vec![Ok(7); 18], vec![Ok(0)]].concat());
+        assert_eq!(job.done(stripe), job.total());
+    }
+    assert_eq!(job.picture(), drawn(&settings, &tape));
+}
+
+/// The letters stand on a line, and there is nothing to do.
+#[test]
+fn a_job_without_ink_has_no_strokes() {
+    let (settings, ..) = cue();
+    let rows = settings.new_picture();
+    for text in ["\u{A0}", "\u{AD}", "\u{A0}\u{1} \t\u{AD}"] {
+        let tape = tape(text);
+        let workspace = &mut Workspace::new();
+        let lines = wrap(&tape, workspace, 9).expect("it is admitted");
+        assert_eq!(lines[0].letters.len(), text.chars().count());
+        let mut picture = painted(&settings, AFTER);
+        let mut job = Job::open(&settings, &tape, workspace, &mut picture, 8).unwrap();
+        assert_eq!(job.total(), 0);
+        let done = (0..job.stripes()).map(|stripe| job.work(workspace, stripe, u32::MAX));
+        assert_eq!(done.collect::<Vec<_>>(), vec![Ok(0); 6]);
+        assert_eq!(job.picture(), [&rows[..], &[PAINT; AFTER]].concat());
+        assert_eq!(job.picture(), drawn(&settings, &tape));
+    }
 }
 
 #[test]

@@ -10,7 +10,7 @@ use common::{PAINT, Random, painted, plain, tape};
 
 const AFTER: usize = 8;
 
-/// Two lines that cross the stripes below, with an outline: 9 strokes a letter.
+/// Two lines that cross the stripes below, of letters with ink and an outline: 9 strokes each.
 fn cue() -> (Settings, Vec<u8>, u32) {
     let settings = Settings {
         outline_px: 1,
@@ -211,6 +211,18 @@ fn numbers_13_and_14_a_damaged_record() {
     let say = |stripe_height| refused(&high, &tape, 65 * 4, &Record::new(stripe_height));
     assert_eq!(say(1), because(Cause::StripesUnfit));
     assert_eq!(say(2), Ok(5));
+}
+
+/// Counters do not go on to letters without ink: three of these five have some.
+#[test]
+fn number_14_a_counter_over_the_letters_with_ink() {
+    let (settings, ..) = cue();
+    let tape = tape("a bc\u{AD}");
+    let say = |count| refused(&settings, &tape, 48 * 41 * 4, &with_counter(0, count));
+    assert_eq!(say(3 * 9), Ok(3 * 9));
+    for count in [3 * 9 + 1, 4 * 9, 5 * 9] {
+        assert_eq!(say(count), because(Cause::CountersUnsound));
+    }
 }
 
 #[test]

@@ -8,6 +8,7 @@ mod draw;
 mod fenced;
 mod font;
 mod hex;
+mod inkless;
 mod proved;
 mod random;
 mod refusal;

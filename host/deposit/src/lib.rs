@@ -40,7 +40,7 @@ const FOR_PLAYERS: [Chapter; 6] = [
     (
         "The font",
         "font",
-        &["Glyphs", "Modes", "Font", "Slant", "Blend", "Paint"],
+        &["Glyphs", "Modes", "Font", "Ink", "Slant", "Blend", "Paint"],
     ),
     (
         "Drawing",
@@ -52,12 +52,13 @@ const FOR_PLAYERS: [Chapter; 6] = [
 ];
 
 /// What stands behind the examples.
-const BEHIND: [Chapter; 14] = [
+const BEHIND: [Chapter; 15] = [
     ("Positions in signed numbers", "compositor", &["Plain"]),
     ("From segments to tapes", "tape", &["Segments"]),
     ("What lines keep", "wrap", &["Shown"]),
     ("A stroke, row by row", "font", &["Upward"]),
     ("Glyph mode 1 by mode 0", "compositor", &["Replaced"]),
+    ("Letters without ink", "compositor", &["Inkless"]),
     ("What a call answers and leaves", "tape", &["Call"]),
     ("What a call answers and leaves", "wrap", &["Wrapped"]),
     ("What a call answers and leaves", "compositor", &["Drawn"]),

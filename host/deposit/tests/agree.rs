@@ -130,17 +130,20 @@ fn the_order_of_refusals() {
 }
 
 /// The files that docs/DEFINITIONS.md quotes from, and what it has to quote.
-const SPECS: [&str; 4] = [
+const SPECS: [&str; 5] = [
     "crates/font/specs/Upward.antt",
     "crates/compositor/specs/Replaced.antt",
+    "crates/compositor/specs/Inkless.antt",
     "crates/job/specs/History.antt",
     "crates/captions/specs/HistoryInC.antt",
 ];
-const QUOTED: [&str; 9] = [
+const QUOTED: [&str; 11] = [
     "DrawnUpward",
     "RowsFromTheBottom",
     "DrawnReplaced",
     "ReplacedFirst",
+    "InkAlone",
+    "InklessLeftOut",
     "PartlyDrawn",
     "Demand3",
     "Possible",

@@ -35,7 +35,8 @@ pub fn count_lines(
     flatten_and_wrap(segments, color, max_cols).len()
 }
 
-/// Counts the strokes that the draw loop comes to, and draws those of a window.
+/// Counts the strokes that the draw loop comes to, and draws those of a window. Where it comes to a
+/// letter without ink, that is no stroke (document 02, S-6).
 struct Strokes {
     window: std::ops::Range<usize>,
     met: std::cell::Cell<usize>,
@@ -54,6 +55,9 @@ impl Strokes {
         color: [u8; 4],
         shear: f32,
     ) {
+        if !font.has_ink(ch) {
+            return;
+        }
         let number = self.met.get();
         self.met.set(number + 1);
         if self.window.contains(&number) {

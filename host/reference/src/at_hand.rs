@@ -59,6 +59,12 @@ impl Original {
         Some(rows)
     }
 
+    /// Whether the glyph that the original draws for a letter has ink: a row of it is not zero. The
+    /// counted loop asks the font's lookup, and the comparison holds the two to each other.
+    pub fn has_ink(&self, bold: bool, ch: char) -> bool {
+        self.glyph_rows(bold, ch.into()) != Some([0; 16])
+    }
+
     /// The runs of segments, merged, where the style around them has this color and no mark.
     pub fn flatten_segments(&self, segments: &[Segment], color: [u8; 4]) -> Vec<Run> {
         runs(compositor::flatten(segments, color))

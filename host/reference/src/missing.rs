@@ -23,6 +23,11 @@ impl Original {
         match *self {}
     }
 
+    /// Whether a letter's glyph has ink, where the original is at hand.
+    pub fn has_ink(&self, _bold: bool, _ch: char) -> bool {
+        match *self {}
+    }
+
     /// The runs of segments, where the original is at hand.
     pub fn flatten_segments(&self, _segments: &[Segment], _color: [u8; 4]) -> Vec<Run> {
         match *self {}

@@ -49,7 +49,7 @@ impl Settings {
         (self.width / CELL_WIDTH).max(1) as usize
     }
 
-    /// The strokes of one letter.
+    /// The strokes of one letter that has ink.
     pub fn strokes(&self) -> usize {
         1 + 8 * self.outline.min(2) as usize
     }

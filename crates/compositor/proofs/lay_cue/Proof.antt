@@ -59,8 +59,8 @@ mul-t17 c =
     let a = accepted-is (read after-read-tape) (after-count .count .given .1) in
     let count = a .counts in
     let few = letters-fit _ _ _ a .few in
-    let on-lines = after-wrap-runs .wrap-runs .ensures .1 in
-    let n = after-wrap-runs .wrap-runs .result .letters in
+    let inked = after-wrap-runs .wrap-runs .ensures .2 in
+    let n = after-wrap-runs .wrap-runs .result .inked in
     let each = ap (λ (m : ℕ). n * m) (c .before .letter-strokes .ensures .0) in
     let small = total-small n (outlineOf (start .args .s)) (omega arith) (omega arith) in
     omega arith
@@ -83,7 +83,7 @@ returns c =
     let w = after-wrap-runs .wrap-runs in
     let limit = after-column-limit .column-limit .ensures .0 in
     let each = c .before .letter-strokes .ensures .0 in
-    let laid = w .ensures .2 (a .given) (a .counts) (letters-held _ _ _ a) in
+    let laid = w .ensures .3 (a .given) (a .counts) (letters-held _ _ _ a) in
     let fit = letters-fit _ _ _ a in
     let count = a .counts in
     let few = fit .few in
@@ -92,8 +92,9 @@ returns c =
     let m = w .kept .0 in
     let lines = w .ensures .0 in
     let on-lines = w .ensures .1 in
+    let inked = w .ensures .2 in
     let means = sym (read-is _ _ _ (start .pre .1) (start .pre .2)) ∙ a .means in
-    cue-laid laid (start .args .s) limit _ (ap (onAccepted (drawing (start .args .s))) means) _ each (omega arith) (omega arith) (omega arith)
+    cue-laid laid (start .args .s) limit _ (ap (onAccepted (drawing (start .args .s))) means) _ each (omega arith) (omega arith) (omega arith) (omega arith)
 
 same-length-2 : tie.Need-same-length-2
 same-length-2 c = search needs

@@ -32,7 +32,7 @@ returns c =
     let few = w .ensures .0 in
     let short = w .ensures .1 in
     λ ls e holds.
-    brought ls (s .args .limit) (w .result) (w .last .0) (w .ensures .2 ls e holds) (omega arith) (omega arith) (omega arith)
+    brought ls (s .args .limit) (w .result) (w .last .0) (w .ensures .3 ls e holds) (omega arith) (omega arith) (omega arith)
     (first .last .0) (second .last .0) (first .ensures) (second .ensures)
 
 pub bring-lines-spec : {M : Type 1} → statement M

@@ -18,10 +18,11 @@ returns c =
     let f = c .before .before .before .before .fill in
     let d = c .drop-empty-lines in
     let most = d .ensures .0 in
-    let lines = f .ensures .sane .lines in (
+    let sane = f .ensures .sane in (
       omega arith,
-      f .ensures .few,
-      λ ls n holds. laid ls _ (d .result) (f .result) (f .last .0) (f .ensures .held ls n holds) (d .ensures .1 ls),
+      omega arith,
+      sane .inked,
+      λ ls n holds. laid ls _ (d .result) (f .result) (f .last .0) (f .ensures .ended ls n holds) (d .ensures .1 ls),
     )
 
 pub wrap-runs-spec : {M : Type 1} → statement M

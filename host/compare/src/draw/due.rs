@@ -8,22 +8,38 @@ use crate::tape::{MOST_BYTES, ROOM, reading};
 use oxideav_core::{Segment, SubtitleCue};
 use reference::Original;
 
+/// The strokes of a cue. A letter on a line whose glyph has no ink has none (document 02, S-6).
+#[derive(Default)]
+pub struct Strokes {
+    pub total: usize,
+    /// Of each letter on a line that has none, how many come before it.
+    pub inkless: Vec<usize>,
+}
+
 /// What the original draws of a cue over these bytes, and its strokes.
 pub fn drawn(original: &Original, settings: &Settings, cue: &SubtitleCue, bytes: &[u8]) -> Drawn {
     let mut bytes = bytes.to_vec();
     original.render_into(settings, cue, &mut bytes);
     Drawn {
-        strokes: strokes(original, settings, &cue.segments),
+        strokes: strokes(original, settings, &cue.segments).total,
         bytes,
     }
 }
 
-/// All strokes of a cue: the original's letters on lines are counted for them.
-pub fn strokes(original: &Original, settings: &Settings, segments: &[Segment]) -> usize {
+/// The strokes of a cue: the original's letters on lines are counted for them, where the glyphs that
+/// it draws have ink. In glyph mode 1 its lines hold the letters that are drawn.
+pub fn strokes(original: &Original, settings: &Settings, segments: &[Segment]) -> Strokes {
     let lines = original.lines(settings, segments);
     let pieces = lines.iter().flat_map(|line| &line.pieces);
-    let letters: usize = pieces.map(|piece| piece.text.chars().count()).sum();
-    letters * settings.strokes()
+    let mut strokes = Strokes::default();
+    for (bold, ch) in pieces.flat_map(|piece| piece.text.chars().map(|ch| (piece.bold, ch))) {
+        if original.has_ink(bold, ch) {
+            strokes.total += settings.strokes();
+        } else {
+            strokes.inkless.push(strokes.total);
+        }
+    }
+    strokes
 }
 
 /// What is due of a call of any kind. Where it is not refused, the original draws the letters that

@@ -1,11 +1,17 @@
 //! Random settings, cues and buffers.
 
-use crate::curly;
 use crate::draw::settings::{ALIGNMENTS, GLYPH_MODES, LINE_HEIGHT_MAX, SIDE_MAX, Settings};
 use crate::random::Random;
 use crate::tape::segments;
 use crate::wrap::cues::{self, Cue};
+use crate::{curly, inkless};
 use std::ops::RangeInclusive;
+
+/// What makes a letter.
+type Make = fn(&mut Random) -> char;
+
+/// What many letters of a cue may be.
+const MANY: [Make; 3] = [letter, curly::letter, inkless::letter];
 
 /// Settings within their ranges.
 pub fn settings(random: &mut Random) -> Settings {
@@ -94,16 +100,15 @@ pub fn cue(random: &mut Random) -> Cue {
     }
 }
 
-/// A cue of so many letters, of which most have a glyph of their own; in a third many are curly.
+/// A cue of so many letters, of which most have a glyph of their own; in a third many, or all, are
+/// curly, and in a third many, or nearly all, have no ink.
 pub fn legible(random: &mut Random, letters: RangeInclusive<i64>) -> Cue {
     let count = random.within(letters);
-    let curly = random.one_in(3);
+    let many = random.pick(&MANY);
+    let share = random.pick(&[1, 2, 3]);
     let mut next = || {
-        if curly && random.one_in(2) {
-            curly::letter(random)
-        } else {
-            letter(random)
-        }
+        let make = if random.one_in(share) { many } else { letter };
+        make(random)
     };
     let text: Vec<char> = (0..count).map(|_| next()).collect();
     cues::of_text(random, &text)

@@ -1,5 +1,6 @@
 //! What the random frames met.
 
+use crate::draw::due::Strokes;
 use crate::draw::frame::Drawn;
 use crate::draw::settings::Settings;
 use std::collections::BTreeMap;
@@ -8,13 +9,14 @@ struct Met<'a> {
     settings: &'a Settings,
     /// How many of its letters glyph mode 1 replaces.
     curly: usize,
+    strokes: &'a Strokes,
     /// Its picture's pixels.
     pixels: &'a [[u8; 4]],
 }
 
 type Kind = (&'static str, fn(&Met) -> bool);
 
-const KINDS: [Kind; 13] = [
+const KINDS: [Kind; 15] = [
     ("something to see", |met| met.pixels.iter().any(lit)),
     ("first column lit", |met| met.column(0)),
     ("last column lit", |met| {
@@ -35,6 +37,12 @@ const KINDS: [Kind; 13] = [
     }),
     ("letters replaced", |met| {
         met.settings.glyph_mode == 1 && met.curly > 0
+    }),
+    ("letters without ink on lines", |met| {
+        !met.strokes.inkless.is_empty()
+    }),
+    ("letters on lines, none with ink", |met| {
+        !met.strokes.inkless.is_empty() && met.strokes.total == 0
     }),
     ("side over 1000", |met| {
         met.settings.width.max(met.settings.height) > 1000
@@ -75,10 +83,10 @@ pub struct Kinds {
 
 impl Kinds {
     /// Counts a frame whose settings are within their ranges, with so many letters that glyph mode 1
-    /// replaces.
-    pub fn add(&mut self, settings: &Settings, curly: usize, drawn: &Drawn) {
+    /// replaces, and these strokes.
+    pub fn add(&mut self, settings: &Settings, curly: usize, strokes: &Strokes, drawn: &Drawn) {
         self.frames += 1;
-        self.strokes += drawn.strokes;
+        self.strokes += strokes.total;
         self.alignments[settings.alignment as usize] += 1;
         self.modes[settings.glyph_mode as usize] += 1;
         let (pixels, _) = drawn.bytes[..settings.area()].as_chunks();
@@ -88,6 +96,7 @@ impl Kinds {
         let met = Met {
             settings,
             curly,
+            strokes,
             pixels,
         };
         for (count, (_, kind)) in self.met.iter_mut().zip(KINDS) {

@@ -1,4 +1,4 @@
-//! Document 01's own cases, and tapes as long and as deep as there may be.
+//! Document 01's own cases, those of letters without ink, and tapes as long and as deep as there may be.
 
 use crate::count::Count;
 use crate::draw::cases::{self, text, translucent};
@@ -9,13 +9,30 @@ use crate::tape::ROOM;
 use crate::wrap::limits;
 use reference::Original;
 
+/// Letters on a line, an outline, and how many strokes they have with it: case l, and what S-6 asks of
+/// letters without ink, with a column and without.
+const STROKES: [(&str, u32, usize); 12] = [
+    ("AB", 0, 2),
+    ("AB", 1, 18),
+    ("AB", 2, 34),
+    ("AB", 9, 34),
+    ("A\u{1}B", 1, 18),
+    ("A B", 1, 18),
+    ("A\tB", 2, 34),
+    ("\u{7f}A\u{9f}", 0, 1),
+    ("\u{a0}", 1, 0),
+    ("\u{ad}", 2, 0),
+    ("\u{a1}\u{ac}\u{ae}~", 1, 36),
+    ("\u{100}\u{1ad}", 0, 2),
+];
+
 pub fn compare(original: &Original) -> Count {
     let mut count = Count::new("tapes of Draw at the limits");
     for cue in limits::long() {
         cases::check(original, &mut count, cue, [tall(), wide(), narrow()]);
     }
-    for (outline, strokes) in [(0, 2), (1, 18), (2, 34), (9, 34)] {
-        count.check(answer(original, outline, strokes));
+    for (words, outline, strokes) in STROKES {
+        count.check(answer(original, words, outline, strokes));
     }
     count
 }
@@ -46,15 +63,15 @@ pub fn tall() -> Settings {
     }
 }
 
-/// Case l: the strokes of AB, which are said here.
-fn answer(original: &Original, outline: u32, strokes: usize) -> Result<(), String> {
+/// Holds Draw to strokes that are said here, and not counted.
+fn answer(original: &Original, words: &str, outline: u32, strokes: usize) -> Result<(), String> {
     let settings = Settings {
         outline,
-        ..translucent(16, 16)
+        ..translucent(32, 16)
     };
     let frame = Frame {
         settings,
-        tape: text("AB").tape,
+        tape: text(words).tape,
         room: ROOM,
         bytes: vec![0xa5; settings.area()],
     };

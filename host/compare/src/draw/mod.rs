@@ -69,6 +69,7 @@ fn random_frame(original: &Original, random: &mut Random, kinds: &mut Kinds) -> 
         positioning: settings.positioning(random.one_in(2)),
     };
     let due = due::drawn(original, &settings, &cue, &frame.bytes);
-    kinds.add(&settings, replaced::count(&cue.segments), &due);
+    let strokes = due::strokes(original, &settings, &cue.segments);
+    kinds.add(&settings, replaced::count(&cue.segments), &strokes, &due);
     frame.hold(&Ok(due))
 }

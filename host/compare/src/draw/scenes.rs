@@ -36,7 +36,8 @@ pub fn scenes() -> Vec<Scene> {
     ]
 }
 
-/// Cues of which each letter is one stroke, or whose letters stand in no order; and one in glyph mode 1.
+/// Cues of which no letter has more than one stroke, or whose letters stand in no order; and one in
+/// glyph mode 1.
 pub fn harder_scenes() -> Vec<Scene> {
     let curly = over_and_over(CURLY, MOST_LETTERS);
     vec![

@@ -54,7 +54,7 @@ fn damaged(original: &Original, random: &mut Random) -> Call {
     }
     let total = draw::due::letters(&frame).map_or(0, |letters| {
         let segments = segments(&letters, settings.default_color);
-        draw::due::strokes(original, &settings, &segments)
+        draw::due::strokes(original, &settings, &segments).total
     });
     let mut record = generate::sound(random, settings.height, stripe_height, total);
     let ask = Ask::Work {

@@ -11,6 +11,8 @@ use std::collections::BTreeMap;
 struct Met<'a> {
     settings: &'a Settings,
     total: usize,
+    /// Of each letter without ink, how many strokes come before it.
+    inkless: &'a [usize],
     /// How many of its letters glyph mode 1 replaces.
     curly: usize,
     stripe: usize,
@@ -21,7 +23,7 @@ struct Met<'a> {
 
 type Kind = (&'static str, fn(&Met) -> bool);
 
-const KINDS: [Kind; 11] = [
+const KINDS: [Kind; 15] = [
     ("something to see", |met| met.seen()),
     ("budget 0", |met| met.budget == 0),
     ("budget 1", |met| met.budget == 1),
@@ -35,6 +37,19 @@ const KINDS: [Kind; 11] = [
     }),
     ("begun and stopped inside letters, and seen", |met| {
         met.inside(met.from()) && met.inside(met.to()) && met.seen()
+    }),
+    ("begun at a letter without ink, and seen", |met| {
+        met.inkless.contains(&met.from()) && met.seen()
+    }),
+    ("stopped at a letter without ink, and seen", |met| {
+        met.inkless.contains(&met.to()) && met.seen()
+    }),
+    ("passed a letter without ink, and seen", |met| {
+        let inside = met.from() + 1..met.to();
+        met.inkless.iter().any(|before| inside.contains(before)) && met.seen()
+    }),
+    ("letters on lines, none with ink", |met| {
+        !met.inkless.is_empty() && met.total == 0
     }),
     ("glyph mode 1", |met| met.settings.glyph_mode == 1),
     ("letters replaced, and seen", |met| {
@@ -115,6 +130,7 @@ impl Kinds {
         let met = Met {
             settings: &theirs.settings,
             total: theirs.total,
+            inkless: &theirs.inkless,
             curly: theirs.curly(),
             stripe: stripe as usize,
             budget: budget as usize,

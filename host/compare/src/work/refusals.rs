@@ -16,8 +16,8 @@ use reference::Original;
 /// Stripe heights for a picture of 130 rows, and how many stripes they make, where they may.
 const STRIPE_HEIGHTS: [(u32, Option<u32>); 4] =
     [(0, None), (2, None), (3, Some(44)), (u32::MAX, Some(1))];
-/// The tape that is not stopped: a letter, and its strokes with outline 1.
-const GOOD: [u8; 2] = [0x02, 0x41];
+/// The tape that is not stopped: a letter and one without ink, and their strokes with outline 1.
+const GOOD: [u8; 4] = [0x02, 0x41, 0x02, 0xad];
 const STROKES: u32 = 9;
 
 /// What may be wrong with a call besides its stripes and its record.

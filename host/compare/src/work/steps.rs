@@ -14,9 +14,15 @@ use crate::wrap::limits;
 use oxideav_core::Segment;
 use reference::Original;
 
-/// Of one line, whose outline reaches the last row, and of three with a blank one; and of letters that
-/// glyph mode 1 replaces.
-const TEXTS: [&str; 3] = ["g\u{100}", "B\n\nj", "\u{201c}\u{2014}"];
+/// Of one line, whose outline reaches the last row, and of three with a blank one; of letters that glyph
+/// mode 1 replaces; and of letters without ink, before, between and behind others, and alone.
+const TEXTS: [&str; 5] = [
+    "g\u{100}",
+    "B\n\nj",
+    "\u{201c}\u{2014}",
+    "\u{ad}\nA\u{1}B\t\u{a0}",
+    "\u{a0}",
+];
 const OUTLINES: [u32; 4] = [0, 1, 2, 9];
 /// A picture so low that letters reach below it, and one that holds them.
 const HEIGHTS: [u32; 2] = [3, 45];

@@ -10,7 +10,8 @@ use reference::Original;
 const STOPPED: u64 = 0x570_93d;
 
 /// Random frames: not stopped, it draws what the original draws and counts its strokes; stopped
-/// anywhere and begun there again, it draws the same.
+/// anywhere and begun there again, it draws the same. Whether a letter has ink it asks the font's
+/// lookup, where the strokes due are by the glyphs as they are drawn.
 pub fn compare(original: &Original, seed: u64, frames: u64) -> Count {
     let mut count = Count::new("the original's strokes, counted");
     for number in 0..frames {

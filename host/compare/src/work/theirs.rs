@@ -1,6 +1,6 @@
 //! A cue as the original draws it, stopped and begun anywhere.
 
-use crate::draw::due;
+use crate::draw::due::{self, Strokes};
 use crate::draw::settings::Settings;
 use oxideav_core::{Segment, SubtitleCue};
 use reference::{Original, replaced};
@@ -12,13 +12,15 @@ pub struct Theirs<'a> {
     cue: SubtitleCue,
     /// All strokes of the cue.
     pub total: usize,
+    /// Of each letter on a line that has no ink, how many strokes come before it.
+    pub inkless: Vec<usize>,
     /// Its picture after so many strokes, the last that was asked for.
     stopped: Option<(usize, Vec<u8>)>,
 }
 
 impl<'a> Theirs<'a> {
     pub fn new(original: &'a Original, settings: Settings, segments: Vec<Segment>) -> Theirs<'a> {
-        let total = due::strokes(original, &settings, &segments);
+        let Strokes { total, inkless } = due::strokes(original, &settings, &segments);
         let positioning = settings.positioning(false);
         Theirs {
             original,
@@ -28,6 +30,7 @@ impl<'a> Theirs<'a> {
                 positioning,
             },
             total,
+            inkless,
             stopped: None,
         }
     }

@@ -3,19 +3,37 @@ use mathlib.Core.Bool.{cond}
 use mathlib.Core.List.{List}
 use Prim.Native.Nat.{ℕ}
 use native.Mathlib.Omega.{arith}
+use borrow.Author.Tests.{not-true, not-false}
+use Rattle.font.specs.Ink.{isInked}
 use Rattle.font.specs.declared.Pen.{Pen}
 use Rattle.font.specs.Font.{glyphRows}
-use Rattle.font.specs.Shear.{penOf, Inked}
+use Rattle.font.specs.Shear.{penOf, Prepared}
 use Rattle.font.specs.Lent.{Lent}
 use Rattle.tape.specs.declared.Style.{Style}
 use Rattle.tape.specs.Stored.{letterAt}
 use Rattle.compositor.specs.Order.{colorOf}
-use Rattle.compositor.proofs.Painting.{missed, then, same}
-use Rattle.compositor.proofs.ReadBack.{inked, keyOf, letter-strokes}
-use Rattle.compositor.proofs.Total.{letter-length}
+use Rattle.compositor.proofs.Painting.{nothing, missed, then, same}
+use Rattle.compositor.proofs.ReadBack.{prepared, keyOf, letter-strokes}
+use Rattle.compositor.proofs.Total.{letter-inked, letter-bare, letter-length}
 use borrow.Author.Needs.{needs}
 use Rattle.compositor.proofs.strokes.draw_letter.Statement.{statement}
 use Rattle.compositor.proofs.strokes.draw_letter.Tie as tie
+
+code-requires : tie.Need-code-requires
+code-requires c κs = search needs
+
+has-ink-requires : tie.Need-has-ink-requires
+has-ink-requires c κs = search needs
+
+-- whether the letter has ink
+told : (c : tie.After-has-ink) → c .has-ink .result ≡ isInked (letterAt (c .before .before .before .before .args .ws .now) (c .before .before .before .before .args .number) .code)
+told c = c .has-ink .ensures ∙ ap isInked (c .before .code .ensures)
+
+returns : tie.Need-returns
+returns c =
+    let a = c .before .before .before .before .before .args in
+    let bare = sym (told (c .before)) ∙ not-true _ (c .if1 .taken) in
+    same (a .rows) (sym (letter-bare (a .s) (letterAt (a .ws .now) (a .number)) (a .at .x) (a .at .base) bare)) (nothing (a .rows) (a .window) (a .part .now))
 
 letter-strokes-requires : tie.Need-letter-strokes-requires
 letter-strokes-requires c κs = search needs
@@ -26,18 +44,18 @@ misses-requires c κs = search needs
 past-requires : tie.Need-past-requires
 past-requires c κs = search needs
 
-returns : tie.Need-returns
-returns c =
-    let after-letter-strokes = c .before .before .before in
-    let start = after-letter-strokes .before .before .before in
+returns-2 : tie.Need-returns-2
+returns-2 c =
+    let after-misses = c .before .before in
+    let after-letter-strokes = after-misses .before in
+    let has = after-letter-strokes .before in
+    let start = has .before .before .before .before .before in
     let a = start .args in
     let l = letterAt (a .ws .now) (a .number) in
+    let ink = sym (told (has .before)) ∙ not-false _ (has .if1 .left) in
     rw (c .past .ensures)
-    (missed (a .rows) _ _ _ (after-letter-strokes .letter-strokes .ensures .0 ∙ sym (letter-length (a .s) l (a .at .x) (a .at .base)))
-    (sym (c .before .before .misses .ensures) ∙ c .before .if1 .taken))
-
-code-requires : tie.Need-code-requires
-code-requires c κs = search needs
+    (missed (a .rows) _ _ _ (after-letter-strokes .letter-strokes .ensures .0 ∙ sym (letter-length (a .s) l (a .at .x) (a .at .base) ink))
+    (sym (after-misses .misses .ensures) ∙ c .before .if2 .taken))
 
 style-requires : tie.Need-style-requires
 style-requires c κs = search needs
@@ -55,22 +73,22 @@ offsets-of-requires : tie.Need-offsets-of-requires
 offsets-of-requires c κs = search needs
 
 -- the glyph and the offsets are those of any pen of the letter's style
-inks : (c : tie.After-offsets-of)
+prepares : (c : tie.After-offsets-of)
     → let after-style = c .before .before .before .before .before in
-    let after-code = after-style .before in
-    let s = after-code .before .before .before .before .before .before .args .s in
+    let after-code = after-style .before .before .before .before .before .before in
+    let s = after-code .before .before .before .args .s in
     let style = after-style .style .result in
     (k : List ℕ) (pen : Pen) → pen ≡ penOf k (style .bold) (style .italic)
-    → Inked (keyOf s (after-code .code .result)) pen (c .before .glyph-of .result) (c .offsets-of .result)
-inks c k pen e =
+    → Prepared (keyOf s (after-code .code .result)) pen (c .before .glyph-of .result) (c .offsets-of .result)
+prepares c k pen e =
     let after-new2 = c .before .before in
     let after-style = after-new2 .before .before .before in
-    let after-code = after-style .before in
-    let start = after-code .before .before .before .before .before .before in
+    let after-code = after-style .before .before .before .before .before .before in
+    let start = after-code .before .before .before in
     let a = start .args in
     let key = keyOf (a .s) (after-code .code .result) in
     let style = after-style .style .result in
-    inked (start .pre .1) key k (style .bold) (style .italic) e
+    prepared (start .pre .1) key k (style .bold) (style .italic) e
     (c .before .glyph-of .ensures ∙ ap (λ (p : Pen). glyphRows (cond (p .bold) (a .bold .now) (a .regular .now)) (key .mode) (key .code)) (after-new2 .new2 .ensures))
     (c .offsets-of .ensures)
 
@@ -82,15 +100,15 @@ draw-outline-requires c κs =
     let after-outline = c .before .before .before in
     let after-offsets-of = after-outline .before in
     let after-new = after-offsets-of .before .before .before in
-    let start = after-new .before .before .before .before .before .before .before .before .before in
-    (start .pre .0, start .pre .3, inks after-offsets-of _ _ (after-new .new .ensures), after-outline .outline .ensures .1)
+    let start = after-new .before .before .before .before .before .before .before .before .before .before .before in
+    (start .pre .0, start .pre .3, prepares after-offsets-of _ _ (after-new .new .ensures), after-outline .outline .ensures .1)
 
 draw-stroke-requires : tie.Need-draw-stroke-requires
 draw-stroke-requires c κs =
     let after-draw-outline = c .before .before .before .before .before in
     let after-offsets-of = after-draw-outline .before .before .before .before .before in
     let after-new2 = after-offsets-of .before .before in
-    let start = after-new2 .before .before .before .before .before .before .before .before .before .before in
+    let start = after-new2 .before .before .before .before .before .before .before .before .before .before .before .before in
     let near = start .pre .3 in
     let left = near .x-least in
     let right = near .x-most in
@@ -99,37 +117,43 @@ draw-stroke-requires c κs =
     let fits = subst (λ (n : ℕ). Lent n (start .args .rows)) (sym (after-draw-outline .draw-outline .kept .0)) (start .pre .0) in (
       fits,
       record { x-least = omega arith; x-most = omega arith; base-least = omega arith; base-most = omega arith },
-      inks after-offsets-of _ _ (after-new2 .new2 .ensures),
+      prepares after-offsets-of _ _ (after-new2 .new2 .ensures),
     )
 
 same-length : tie.Need-same-length
 same-length c = search needs
 
-returns-2 : tie.Need-returns-2
-returns-2 c =
+returns-3 : tie.Need-returns-3
+returns-3 c =
     let after-draw-outline = c .before .before .before .before .before .before .before .before in
     let after-outline = after-draw-outline .before .before .before .before in
     let after-new2 = after-outline .before .before .before in
     let after-new = after-new2 .before in
     let after-style = after-new .before .before in
-    let after-code = after-style .before in
-    let start = after-code .before .before .before .before .before .before in
+    let has = after-style .before .before .before .before in
+    let after-code = has .before .before in
+    let start = after-code .before .before .before in
     let a = start .args in
+    let l = letterAt (a .ws .now) (a .number) in
     let style = after-style .style .ensures in
-    let whole = letter-strokes (a .s) (letterAt (a .ws .now) (a .number)) (a .at) (after-code .code .ensures) (after-outline .outline .ensures .0)
+    let ink = sym (told (has .before)) ∙ not-false _ (has .if1 .left) in
+    let whole = letter-strokes (a .s) l (a .at) (after-code .code .ensures) (after-outline .outline .ensures .0)
     (after-new .new .ensures ∙ ap (λ (t : Style). penOf (a .s .«outline_color») (t .bold) (t .italic)) style)
     (after-new2 .new2 .ensures ∙ ap (λ (t : Style). penOf (colorOf t) (t .bold) (t .italic)) style) in
-    same (a .rows) whole (then (a .rows) _ _ (start .pre .0) (after-draw-outline .draw-outline .ensures) (c .before .before .draw-stroke .ensures))
+    same (a .rows) (whole ∙ sym (letter-inked (a .s) l (a .at .x) (a .at .base) ink))
+    (then (a .rows) _ _ (start .pre .0) (after-draw-outline .draw-outline .ensures) (c .before .before .draw-stroke .ensures))
 
 pub draw-letter-spec : {M : Type 1} → statement M
 draw-letter-spec =
     tie.close
     (tie.spec
+    code-requires
+    has-ink-requires
+    returns
     letter-strokes-requires
     misses-requires
     past-requires
-    returns
-    code-requires
+    returns-2
     style-requires
     new-requires
     new-requires-2
@@ -139,4 +163,4 @@ draw-letter-spec =
     draw-outline-requires
     draw-stroke-requires
     same-length
-    returns-2)
+    returns-3)

@@ -83,9 +83,8 @@ draw-each-line-requires c κs =
         bold-is = after-table2 .table2 .ensures ∙ ap (λ (f : BitmapFont). tableOf (f .bold)) (after-default-bold .default-bold .ensures);
         slanted-is = after-row-offsets .row-offsets .ensures ∙ rw (after-new .new .ensures, leans-back true);
       },
-      s .pre .1 .readable,
+      s .pre .1,
       s .pre .2,
-      s .pre .1 .few,
     )
 
 same-length : tie.Need-same-length

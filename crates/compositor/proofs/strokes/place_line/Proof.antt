@@ -10,22 +10,22 @@ use Rattle.wrap.specs.Laid.{columnsOn}
 use Rattle.compositor.proofs.LinesOff.{line-around, missing}
 use Rattle.compositor.proofs.Painting.{missed}
 use Rattle.compositor.proofs.ReadBack.{letters-length}
-use Rattle.compositor.proofs.Total.{line-length}
+use Rattle.compositor.proofs.Total.{line-length, inked-few}
 use Rattle.compositor.proofs.WrappedLines.{total-small}
 use borrow.Author.Needs.{needs}
 use Rattle.compositor.proofs.strokes.place_line.Statement.{statement}
 use Rattle.compositor.proofs.strokes.place_line.Tie as tie
 
--- the line's strokes are as many as its letters have
+-- the line's strokes are as many as its letters with ink have
 strokes-are : (c : tie.After-letter-strokes) →
     let a = c .before .before .before .args in
-    a .span .letters * c .letter-strokes .result
+    a .span .inked * c .letter-strokes .result
     ≡ length (lineStrokes (a .s) (lineStart (a .s) (lineWidth (columnsOn (a .ws .now) (a .line)))) (a .y) (lettersAt (a .ws .now) (a .span .first) (a .span .letters)))
 strokes-are c =
     let start = c .before .before .before in
     let a = start .args in
     let ls = lettersAt (a .ws .now) (a .span .first) (a .span .letters) in
-    ap₂ (λ (n m : ℕ). n * m) (sym (letters-length (a .ws .now) (a .span .first) (a .span .letters))) (c .letter-strokes .ensures .0)
+    ap₂ (λ (n m : ℕ). n * m) (start .pre .3) (c .letter-strokes .ensures .0)
     ∙ sym (line-length (a .s) _ (a .y) ls)
 
 letter-strokes-requires : tie.Need-letter-strokes-requires
@@ -35,10 +35,14 @@ mul-strokes : tie.Need-mul-strokes
 mul-strokes c =
     let after-letter-strokes = c .before in
     let start = after-letter-strokes .before .before .before in
-    let n = start .args .span .letters in
+    let a = start .args in
+    let n = a .span .inked in
     let few = start .pre .2 .few in
+    let inked = start .pre .3 in
+    let some = inked-few (lettersAt (a .ws .now) (a .span .first) (a .span .letters)) in
+    let letters = letters-length (a .ws .now) (a .span .first) (a .span .letters) in
     let each = ap (λ (m : ℕ). n * m) (after-letter-strokes .letter-strokes .ensures .0) in
-    let small = total-small n (outlineOf (start .args .s)) (omega arith) (omega arith) in
+    let small = total-small n (outlineOf (a .s)) (omega arith) (omega arith) in
     omega arith
 
 outline-requires : tie.Need-outline-requires
@@ -59,7 +63,7 @@ returns c =
     let outline = after-outline .outline .ensures in
     let off = rw (outline .0) at (sym (c .before .before .is-off .ensures) ∙ c .before .if1 .taken) in
     rw (c .past .ensures)
-    (missing (a .rows) (a .y) (a .y) (outlineOf (a .s)) (start .pre .5) (omega arith) off _ _ _ (strokes-are after-letter-strokes) (line-around (a .s) _ (a .y) _))
+    (missing (a .rows) (a .y) (a .y) (outlineOf (a .s)) (start .pre .6) (omega arith) off _ _ _ (strokes-are after-letter-strokes) (line-around (a .s) _ (a .y) _))
 
 misses-requires : tie.Need-misses-requires
 misses-requires c κs = search needs
@@ -86,7 +90,7 @@ draw-line-requires c κs =
     let x = c .before .line-start .ensures in
     let left = x .1 in
     let right = x .2 in
-    (start .pre .0, start .pre .1, start .pre .2, record { x-least = omega arith; x-most = omega arith; base-least = start .pre .5; base-most = start .pre .6 }, right)
+    (start .pre .0, start .pre .1, start .pre .2, record { x-least = omega arith; x-most = omega arith; base-least = start .pre .6; base-most = start .pre .7 }, right)
 
 same-length : tie.Need-same-length
 same-length c = search needs

@@ -2,6 +2,7 @@ use mathlib.Core.Path.{_≡_, _∙_, refl, sym}
 use Prim.Native.Nat.{_-_, _≤_}
 use native.Mathlib.Omega.{arith}
 use lib.ListN.{length}
+use borrow.Author.Tests.{ltb-true}
 use Rattle.tape.specs.Command.{mostLetters}
 use Rattle.tape.specs.Stored.{codeAt}
 use Rattle.wrap.specs.Filled.{Sane}
@@ -26,7 +27,8 @@ close-requires : tie.Need-close-requires Inv-loop μ-loop
 close-requires c κs =
     let l = c .before .before .before .before .before .loop in
     let n = l .inv .2 in
-    (sane-on (l .line) (l .i) (l .inv .1) mostLetters (omega arith), omega arith)
+    let lines = l .inv .1 .lines in
+    (sane-on (l .line) (l .i) (l .inv .1) mostLetters (omega arith), omega arith, omega arith)
 
 add-i : tie.Need-add-i Inv-loop μ-loop
 add-i c = omega arith
@@ -75,19 +77,23 @@ loop-again-2 c =
       pass-token _ _ _ (l .i) (l .inv .3) more other (t .result) (t .ensures .0) (t .ensures .1) (t .ensures .2) (p .put-token .ensures),
     )
 
-close-requires-2 : tie.Need-close-requires-2 Inv-loop μ-loop
-close-requires-2 c κs =
-    let l = c .before .before .loop in
+close-if-requires : tie.Need-close-if-requires Inv-loop μ-loop
+close-if-requires c κs =
+    let l = c .before .before .before .loop in
     let n = l .inv .2 in
-    (sane-on (l .line) (l .i) (l .inv .1) mostLetters (omega arith), omega arith)
+    let sane = l .inv .1 in (
+      sane-on (l .line) (l .i) sane mostLetters (omega arith),
+      λ e. let some = sane .some (ltb-true _ _ e) in omega arith,
+      omega arith,
+    )
 
 same-length : tie.Need-same-length Inv-loop μ-loop
-same-length c = c .before .before .close2 .kept .1 .0 ∙ c .before .before .before .before .before .loop .inv .2
+same-length c = c .before .before .close-if .kept .1 .0 ∙ c .before .before .before .before .before .before .loop .inv .2
 
 returns : tie.Need-returns Inv-loop μ-loop
 returns c =
-    let l = c .before .before .before .before .before .loop in
-    pass-end _ _ _ (l .i) (l .inv .3) (omega arith) (l .inv .1) (c .before .before .close2 .ensures)
+    let l = c .before .before .before .before .before .before .loop in
+    pass-end _ _ _ (l .i) (l .inv .3) (omega arith) (l .inv .1) (c .before .before .close-if .ensures)
 
 pub fill-spec : {M : Type 1} → statement M
 fill-spec =
@@ -105,6 +111,6 @@ fill-spec =
     put-token-requires
     loop-less-2
     loop-again-2
-    close-requires-2
+    close-if-requires
     same-length
     returns)

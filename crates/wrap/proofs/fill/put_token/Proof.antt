@@ -1,8 +1,11 @@
 use mathlib.Core.Path.{_∙_, sym, subst}
 use mathlib.Core.Bool.{Bool}
 use native.Mathlib.Omega.{arith}
+use borrow.Author.Tests.{ltb-true}
 use Rattle.wrap.specs.Filled.{Closed}
-use Rattle.wrap.proofs.CursorBounds.{ready-on}
+use Rattle.tape.specs.Command.{mostLetters}
+use Rattle.tape.proofs.EqualStyles.{split}
+use Rattle.wrap.proofs.CursorBounds.{sane-on, ready-on}
 use Rattle.wrap.proofs.TokenRules.{Put, token-none, token-sane, token-drops, token-places}
 use borrow.Author.Needs.{needs}
 use Rattle.wrap.proofs.fill.put_token.Statement.{statement}
@@ -11,15 +14,17 @@ use Rattle.wrap.proofs.fill.put_token.Tie as tie
 -- the token and the line that it is put on
 put : (t : tie.After-is-blank-letter) →
     let q = t .before .before .before .before in
-    let a = q .before .before .before .before .before .before .before .args in
-    let v = q .before .before .before .before .visible-cols in
+    let v = q .before .before .before .before .before .tally-of in
+    let a = q .before .before .before .before .before .before .before .before .args in
     Put (a .line) (a .ws .now) (a .i) (a .j) (a .limit) (v .result) (q .close-if .result) (q .close-if .last .1 .0) (t .is-blank-letter .result)
 put t =
     let q = t .before .before .before .before in
-    let a = q .before .before .before .before .before .before .before .args in
+    let v = q .before .before .before .before .before .tally-of in
+    let s = q .before .before .before .before .before .before .before .before in
+    let a = s .args in
     record {
-      ready = q .before .before .before .before .before .before .before .pre;
-      wide = q .before .before .before .before .visible-cols .ensures .1;
+      ready = s .pre;
+      tallied = v .ensures .2;
       some = q .before .before .before .if1 .left;
       next =
           subst (λ (b : Bool). Closed b (a .line) (a .ws .now) (q .close-if .result) (q .close-if .last .1 .0)) (q .before .passes .ensures)
@@ -27,20 +32,29 @@ put t =
       kind = t .is-blank-letter .ensures;
     }
 
-visible-cols-requires : tie.Need-visible-cols-requires
-visible-cols-requires c κs = search needs
+tally-of-requires : tie.Need-tally-of-requires
+tally-of-requires c κs = search needs
 
 same-length : tie.Need-same-length
 same-length c = search needs
 
 returns : tie.Need-returns
-returns c = token-none _ _ _ _ _ _ (c .before .before .before .before .pre) (c .before .visible-cols .ensures .1) (c .if1 .taken)
+returns c = token-none _ _ _ _ _ _ (c .before .before .before .before .before .pre) (c .before .before .tally-of .ensures .2) (c .if1 .taken)
 
 passes-requires : tie.Need-passes-requires
 passes-requires c κs = search needs
 
 close-if-requires : tie.Need-close-if-requires
-close-if-requires c κs = search needs
+close-if-requires c κs =
+    let ready = c .before .before .before .before .before .before .before .pre in
+    let sane = ready .sane in
+    let few = ready .few in
+    let some = ready .some in
+    let room = ready .room in (
+      sane-on _ _ sane mostLetters (omega arith),
+      λ e. let b = sane .busy (ltb-true 0 _ (split _ _ (sym (c .passes .ensures) ∙ e) .0)) in omega arith,
+      omega arith,
+    )
 
 is-blank-letter-requires : tie.Need-is-blank-letter-requires
 is-blank-letter-requires c κs = search needs
@@ -57,8 +71,8 @@ returns-2 c = token-drops (put (c .before .before)) (sym (c .before .drops .ensu
 add-or-break-requires : tie.Need-add-or-break-requires
 add-or-break-requires c κs =
     let p = put (c .before .before .before) in
-    let q = c .before .before .before .before .before .before .before in
-    (ready-on (p .ready) _ _ (p .ready .some) (omega arith) (token-sane p) (q .close-if .kept .1 .0), q .before .before .before .before .visible-cols .ensures .0)
+    let v = c .before .before .before .before .before .before .before .before .before .before .before .before .tally-of .ensures in
+    (ready-on (p .ready) _ _ (p .ready .some) (omega arith) (token-sane p) (c .before .before .before .before .before .before .before .close-if .kept .1 .0), v .0, v .1)
 
 same-length-3 : tie.Need-same-length-3
 same-length-3 c = search needs
@@ -72,7 +86,7 @@ pub put-token-spec : {M : Type 1} → statement M
 put-token-spec =
     tie.close
     (tie.spec
-    visible-cols-requires
+    tally-of-requires
     same-length
     returns
     passes-requires

@@ -33,7 +33,7 @@ returns c =
           let m = length-between (a .i) (a .j) in
           let sane = s .pre .0 in
           rw (b .ensures .1 ls n wide (held .letters), p .ensures)
-          (held-add ls f (a .self) (a .ws .now) held (s .pre .4) (between (a .i) (a .j)) (omega arith));
+          (held-add ls f (a .self) (a .ws .now) held (s .pre .5) (between (a .i) (a .j)) (omega arith));
     }
 
 pub add-spec : {M : Type 1} → statement M

@@ -4,7 +4,7 @@ use Rattle.wrap.proofs.line.Cursor.close_if.Statement.{statement}
 use Rattle.wrap.proofs.line.Cursor.close_if.Tie as tie
 
 close-requires : tie.Need-close-requires
-close-requires c κs = search needs
+close-requires c κs = let s = c .before .before .before in (s .pre .0, s .pre .1 (c .before .if1 .taken), s .pre .2)
 
 same-length : tie.Need-same-length
 same-length c = search needs
