@@ -103,32 +103,21 @@ mode-cases =
 
 -- ---- ink
 
--- at both ends of each range of code points without ink, and beside them, in both fonts and modes
-abbrev bare : List ℕ
-bare = 0 ∷ 0x01 ∷ 0x09 ∷ 0x0a ∷ 0x20 ∷ 0x7f ∷ 0x9f ∷ 0xa0 ∷ 0xad ∷ []
-
-abbrev inked : List ℕ
-inked = 0x21 ∷ 0x7e ∷ 0xa1 ∷ 0xac ∷ 0xae ∷ 0xff ∷ 0x100 ∷ 0x2019 ∷ 0x10ffff ∷ []
-
 -- whether the glyphs of code points have ink
 abbrev inks : List ℕ → ℕ → List ℕ → List Bool
 inks table mode codes = map (λ c. hasInk (glyphRows table mode c)) codes
 
--- by the rule, and by the glyphs
-abbrev InkOf : List ℕ → List Bool → Type 0
-InkOf codes ink =
-    (map isInked codes ≡ ink)
-    × (inks regularTable 0 codes ≡ ink)
-    × (inks regularTable 1 codes ≡ ink)
-    × (inks boldTable 0 codes ≡ ink)
-    × (inks boldTable 1 codes ≡ ink)
-
 pub record InkCases : Type 0 where
-  pub without : InkOf bare (replicate 9 false)
-  pub with : InkOf inked (replicate 9 true)
+  -- both ends of each range of code points without ink, and some of those inside
+  pub without : map isInked (0 ∷ 0x01 ∷ 0x09 ∷ 0x0a ∷ 0x20 ∷ 0x7f ∷ 0x9f ∷ 0xa0 ∷ 0xad ∷ []) ≡ replicate 9 false
+  -- those beside them
+  pub beside : map isInked (0x21 ∷ 0x7e ∷ 0xa1 ∷ 0xac ∷ 0xae ∷ 0xff ∷ 0x100 ∷ 0x2019 ∷ 0x10ffff ∷ []) ≡ replicate 9 true
+  -- the same by glyphs: a space, A0, AD, the box, and a curly quote, which is a quote in mode 1
+  pub regular : inks regularTable 0 (0x20 ∷ 0xa0 ∷ 0xad ∷ 0x100 ∷ []) ≡ false ∷ false ∷ false ∷ true ∷ []
+  pub bold : inks boldTable 1 (0x20 ∷ 0xad ∷ 0x2019 ∷ []) ≡ false ∷ false ∷ true ∷ []
   -- one lit pixel is ink
   pub dot : hasInk (replicate 15 0 ++ (1 ∷ [])) ≡ true
 
 pub ink-cases : InkCases
 unfolding hasInk replaced tabulate regularTable boldTable
-ink-cases = record { without = (refl, refl, refl, refl, refl); with = (refl, refl, refl, refl, refl); dot = refl }
+ink-cases = record { without = refl; beside = refl; regular = refl; bold = refl; dot = refl }
