@@ -2,7 +2,7 @@
 
 mod common;
 
-use captions::{Cause, GlyphMode, Job, Refusal, Settings, Workspace, draw, wrap};
+use captions::{Align, Cause, GlyphMode, Job, Refusal, Settings, Workspace, draw, wrap};
 use common::{PAINT, Random, painted, plain, tape};
 
 const AFTER: usize = 8;
@@ -251,6 +251,32 @@ fn a_job_without_ink_has_no_strokes() {
         assert_eq!(done.collect::<Vec<_>>(), vec![Ok(0); 6]);
         assert_eq!(job.picture(), [&rows[..], &[PAINT; AFTER]].concat());
         assert_eq!(job.picture(), drawn(&settings, &tape));
+    }
+}
+
+/// What is kept for each line then ends with the workspace: letters on a line each, and breaks before
+/// a letter.
+#[test]
+fn as_many_lines_as_there_can_be() {
+    let settings = Settings {
+        align: Align::Center,
+        ..plain(8, 40)
+    };
+    for text in ["H".repeat(4096), "\n".repeat(4095) + "H"] {
+        let (tape, total) = (tape(&text), text.matches('H').count() as u32);
+        let workspace = &mut Workspace::new();
+        assert_eq!(wrap(&tape, workspace, 1).unwrap().len(), 4096);
+        let mut picture = painted(&settings, AFTER);
+        let mut job = Job::open(&settings, &tape, workspace, &mut picture, 8).unwrap();
+        assert_eq!(job.total(), total);
+        for stripe in 0..job.stripes() {
+            assert_eq!(job.work(workspace, stripe, total - 1), Ok(total - 1));
+        }
+        assert!(job.picture() != drawn(&settings, &tape));
+        for stripe in 0..job.stripes() {
+            assert_eq!(job.work(workspace, stripe, 2), Ok(1));
+        }
+        assert!(job.picture() == drawn(&settings, &tape));
     }
 }
 
