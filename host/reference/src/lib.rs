@@ -1,5 +1,5 @@
-//! The original: `font.rs` and `compositor.rs` of oxideav-subtitle, compiled unchanged, its draw loop
-//! once more with a counter in it, and what the comparison asks of them.
+//! The original: `font.rs` and `compositor.rs` of oxideav-subtitle, compiled as they are, with what the
+//! comparison asks of their private parts behind them, and the draw loop once more with a counter.
 //!
 //! `build.rs` looks for the two files. Where they are missing the crate still builds, [`original`]
 //! answers `None`, and nothing of them is imitated.
