@@ -29,10 +29,10 @@
  * pixels from the left, of each the bytes red, green, blue, alpha. The bytes after the picture
  * never change, and a refused call changes no byte of the buffer.
  *
- * Strokes. A letter on a line that has ink is one stroke, and 8 more for each pixel of its outline. A
- * letter without ink has none: spaces and controls, code points 00 to 20 and 7F to A0, and AD, in
- * every style. A cue's strokes have one order; T is how many they are, and depends on the tape and
- * the outline alone.
+ * Strokes. A letter on a line that has ink is one stroke, and 8 more for each pixel of its outline,
+ * up to outline_cap. A letter without ink has none: spaces and controls, code points 00 to 20 and
+ * 7F to A0, and AD, in every style. A cue's strokes have one order; T is how many they are, and
+ * depends on the tape, the outline and its cap alone.
  */
 #ifndef CAPTIONS_H
 #define CAPTIONS_H
@@ -48,14 +48,19 @@ extern "C" {
  * The number of this interface: what is declared here, and what it means. It grows by one with each
  * change of that, an addition too. A program is linked with the library of its header's version.
  * Until version 3 letters without ink had strokes too, so that a record of then is not to be worked
- * on with this library: its job is opened anew.
+ * on with this library: its job is opened anew. Until version 4 settings ended with glyph_mode;
+ * this library reads three numbers more, so that a program of then is compiled anew. They were 8, 2
+ * and 2 then, and where they still are, a record made with version 3 stays good.
  */
-#define CAPTIONS_VERSION 3
+#define CAPTIONS_VERSION 4
 
 #define CAPTIONS_TAPE_MAX 16384       /* bytes of a tape */
 #define CAPTIONS_WORKSPACE_MIN 65536  /* bytes of a workspace */
 #define CAPTIONS_SIDE_MAX 4096        /* pixels of a picture's width, and of its height */
 #define CAPTIONS_LINE_HEIGHT_MAX 1024 /* pixels from one line to the next */
+#define CAPTIONS_SIDE_MARGIN_MAX 255  /* pixels between a line and the side that it is aligned to */
+#define CAPTIONS_SLANT_MAX 8          /* eighths of a cell's width that italic leans over a cell */
+#define CAPTIONS_OUTLINE_CAP_MAX 4    /* pixels that the widest outline may have */
 #define CAPTIONS_COLUMNS_MAX 4096     /* the largest column limit; the smallest is 1 */
 #define CAPTIONS_LETTERS_MAX 4096     /* letters of a cue; breaks and a voice's ": " count too */
 #define CAPTIONS_STRIPES_MAX 64       /* stripes of a picture */
@@ -77,7 +82,10 @@ enum captions_command {
     CAPTIONS_TIME_MARK = 0x0B /* draws nothing */
 };
 
-/* Where lines stand between the picture's sides. */
+/*
+ * Where lines stand between the picture's sides. At a side they stay side_margin pixels from it,
+ * and may go beyond the other: a margin takes no column from a line. At the center there is none.
+ */
 enum captions_align {
     CAPTIONS_ALIGN_CENTER = 0,
     CAPTIONS_ALIGN_LEFT = 1,
@@ -101,9 +109,12 @@ typedef struct {
     uint32_t outline_color;
     uint32_t line_height;   /* pixels: at most CAPTIONS_LINE_HEIGHT_MAX; under 16 it counts as 16 */
     uint32_t bottom_margin; /* pixels from the lowest row up: any number */
-    uint32_t outline;       /* pixels around a letter: any number; over 2 it counts as 2 */
+    uint32_t outline;       /* pixels: any number; over outline_cap it counts as outline_cap */
     uint32_t alignment;     /* CAPTIONS_ALIGN_CENTER to CAPTIONS_ALIGN_END */
     uint32_t glyph_mode;    /* CAPTIONS_GLYPHS_KEPT or CAPTIONS_GLYPHS_REPLACED */
+    uint32_t side_margin;   /* pixels: at most CAPTIONS_SIDE_MARGIN_MAX */
+    uint32_t slant;         /* eighths of a cell's width: at most CAPTIONS_SLANT_MAX; 0: upright */
+    uint32_t outline_cap;   /* pixels: at most CAPTIONS_OUTLINE_CAP_MAX; 0 is no outline */
 } captions_settings;
 
 /*
@@ -116,12 +127,12 @@ typedef struct {
 } captions_record;
 
 /* Compiles only where the structs are numbers in a row, without padding. */
-typedef char captions_settings_are_9_numbers[sizeof(captions_settings) == 36 ? 1 : -1];
+typedef char captions_settings_are_12_numbers[sizeof(captions_settings) == 48 ? 1 : -1];
 typedef char captions_record_is_65_numbers[sizeof(captions_record) == 260 ? 1 : -1];
 
 /*
  * Usual settings: white letters with a black outline of a pixel, opaque; lines at the center; no
- * letter replaced.
+ * letter replaced; and the side margin, slant and outline cap that there were before version 4.
  */
 static inline captions_settings captions_settings_usual(uint32_t width, uint32_t height)
 {
@@ -135,6 +146,9 @@ static inline captions_settings captions_settings_usual(uint32_t width, uint32_t
     usual.outline = 1;
     usual.alignment = CAPTIONS_ALIGN_CENTER;
     usual.glyph_mode = CAPTIONS_GLYPHS_KEPT;
+    usual.side_margin = 8;
+    usual.slant = 2;
+    usual.outline_cap = 2;
     return usual;
 }
 

@@ -1,24 +1,34 @@
 //! Looks for the two original files and, where both are there, declares them as modules of this
 //! crate: copies in the build's own folder, each with the text of `append/` behind it, since what the
 //! comparison calls there is private, and `compositor.rs` then with its draw loop once more and a
-//! counter in it.
+//! counter in it. A third module is `compositor.rs` once more, and so is all behind it, with its fixed
+//! numbers made settings.
 
+mod changes;
 mod counted;
+mod house;
 
 use std::env;
 use std::fs;
 use std::io;
 use std::path::{Path, PathBuf};
 
-/// The file that has the draw loop.
-const DRAWS: &str = "compositor.rs";
-const FILES: [&str; 2] = ["font.rs", DRAWS];
+const FILES: [&str; 2] = ["font.rs", "compositor.rs"];
+const FONT: &str = "font";
+/// The module whose numbers are settings.
+const HOUSE: &str = "house";
+/// The modules, and the file that each is made of. All but the font have a draw loop.
+const MODULES: [(&str, &str); 3] = [
+    (FONT, FILES[0]),
+    ("compositor", FILES[1]),
+    (HOUSE, FILES[1]),
+];
 
 fn main() -> io::Result<()> {
     println!("cargo::rustc-check-cfg=cfg(original)");
-    println!("cargo::rerun-if-changed=build.rs");
-    println!("cargo::rerun-if-changed=counted.rs");
-    println!("cargo::rerun-if-changed=append");
+    for own in ["build.rs", "changes.rs", "counted.rs", "house.rs", "append"] {
+        println!("cargo::rerun-if-changed={own}");
+    }
     println!("cargo::rerun-if-env-changed=CAPTIONS_RUST");
     let folder = folder();
     println!(
@@ -58,13 +68,20 @@ fn shown(folder: &Path) -> PathBuf {
 fn declare(folder: &Path) -> io::Result<()> {
     let out = PathBuf::from(env::var_os("OUT_DIR").unwrap_or_default());
     let mut modules = String::new();
-    for name in FILES {
+    for (module, name) in MODULES {
         let file = folder.join(name).canonicalize()?;
         println!("cargo::rerun-if-changed={}", file.display());
-        let file = opened(&file, name, &out)?;
-        let module = name.trim_end_matches(".rs");
+        let text = fs::read_to_string(&file)?;
+        let append = fs::read_to_string(Path::new("append").join(name))?;
+        let made = made(module, text, &append).unwrap_or_else(|found| {
+            let file = file.display();
+            println!("cargo::error=no module `{module}`, {file} is not as expected: {found}");
+            String::new()
+        });
+        let copy = out.join(module).with_extension("rs");
+        fs::write(&copy, made)?;
         modules.push_str(&format!(
-            "#[allow(warnings)]\n#[path = {file:?}]\npub mod {module};\n"
+            "#[allow(warnings)]\n#[path = {copy:?}]\npub mod {module};\n"
         ));
     }
     fs::write(out.join("original.rs"), modules)?;
@@ -72,20 +89,16 @@ fn declare(folder: &Path) -> io::Result<()> {
     Ok(())
 }
 
-/// A copy of the file with what `append/` has for it and, behind the draw loop, the counted one.
-fn opened(file: &Path, name: &str, out: &Path) -> io::Result<PathBuf> {
-    let text = fs::read_to_string(file)?;
-    let append = fs::read_to_string(Path::new("append").join(name))?;
-    let counted = match name {
-        DRAWS => counted::methods(&text),
-        _ => counted::lookup(&text).map(|()| String::new()),
+/// A module's text: that of its file, with what `append/` has for it and, behind a draw loop, the
+/// counted one; or what was not found in it.
+fn made(module: &str, text: String, append: &str) -> Result<String, String> {
+    let text = match module {
+        HOUSE => house::text(&text)?,
+        _ => text,
     };
-    let counted = counted.unwrap_or_else(|found| {
-        let file = file.display();
-        println!("cargo::error=no stroke can be counted, {file} is not as expected: {found}");
-        String::new()
-    });
-    let copy = out.join(name);
-    fs::write(&copy, text + &append + &counted)?;
-    Ok(copy)
+    let counted = match module {
+        FONT => counted::lookup(&text).map(|()| String::new())?,
+        _ => counted::methods(&text)?,
+    };
+    Ok(text + append + &counted)
 }

@@ -1,7 +1,6 @@
 //! The original's draw loop with a counter in it, made of the original's own text as it is built.
 
-/// A piece of the loop's text, how often it stands there, and what takes its place.
-type Change = (&'static str, usize, &'static str);
+use crate::changes::{Change, changed, stands};
 
 /// The loop's methods, and what makes each its counted twin: another name, and strokes that go
 /// through `Strokes` of `append/compositor.rs`.
@@ -55,21 +54,5 @@ fn method<'a>(text: &'a str, name: &str) -> Result<&'a str, String> {
     match text[start..].find(END) {
         Some(length) => Ok(&text[start..start + length + END.len()]),
         None => Err(format!("`fn {name}` has no end")),
-    }
-}
-
-fn changed(method: &str, changes: &[Change]) -> Result<String, String> {
-    let mut text = method.to_string();
-    for (from, times, to) in changes {
-        stands(&text, from, *times)?;
-        text = text.replace(from, to);
-    }
-    Ok(text)
-}
-
-fn stands(text: &str, piece: &str, times: usize) -> Result<(), String> {
-    match text.matches(piece).count() {
-        found if found == times => Ok(()),
-        found => Err(format!("`{piece}` stands there {found} times, not {times}")),
     }
 }

@@ -14,7 +14,7 @@ use Rattle.job.specs.declared.JobRecord.{JobRecord}
 use Rattle.job.specs.Stripes.{Division}
 use Rattle.job.specs.Worked.{Opened, Worked}
 
--- the settings from nine numbers; a color is 0xRRGGBBAA
+-- the settings from twelve numbers; a color is 0xRRGGBBAA
 abbrev pub settingsOf : List ℕ → Settings
 settingsOf words =
     record {
@@ -27,6 +27,9 @@ settingsOf words =
       «outline_px» = getD words 6 0;
       align = getD words 7 0;
       «glyph_mode» = getD words 8 0;
+      «side_margin_px» = getD words 9 0;
+      slant = getD words 10 0;
+      «outline_cap_px» = getD words 11 0;
     }
 
 -- a job record as 65 numbers: the stripe height, and then the counters

@@ -17,7 +17,7 @@ pub extern "C" fn captions_wrap(tape: &[u8], workspace: &mut [u8], column_limit:
 }
 
 // The settings from numbers in their order; a color is 0xRRGGBBAA.
-fn settings_of(words: [u32; 9]) -> Settings
+fn settings_of(words: [u32; 12]) -> Settings
     ensures { λ r. ⌜ r ≡ settingsOf words ⌝ }
 {
     let own = font::color_bytes(words[2]);
@@ -32,6 +32,9 @@ fn settings_of(words: [u32; 9]) -> Settings
         outline_px: words[6],
         align: words[7],
         glyph_mode: words[8],
+        side_margin_px: words[9],
+        slant: words[10],
+        outline_cap_px: words[11],
     }
 }
 
@@ -39,7 +42,7 @@ fn settings_of(words: [u32; 9]) -> Settings
 // zeros. A refusal leaves the picture as it is.
 #[no_mangle]
 pub extern "C" fn captions_draw(
-    settings: &[u32; 9],
+    settings: &[u32; 12],
     tape: &[u8],
     workspace: &mut [u8],
     picture: &mut [u8],
@@ -85,7 +88,7 @@ fn words_of(job: JobRecord) -> [u32; 65]
 // how many strokes the tape's caption has. A refusal leaves the picture as it is, and gives zeros.
 #[no_mangle]
 pub extern "C" fn captions_open(
-    settings: &[u32; 9],
+    settings: &[u32; 12],
     tape: &[u8],
     workspace: &mut [u8],
     picture: &mut [u8],
@@ -107,7 +110,7 @@ pub extern "C" fn captions_open(
 // counts them in the record. Answers how many they were. A refusal leaves the picture and the record.
 #[no_mangle]
 pub extern "C" fn captions_work(
-    settings: &[u32; 9],
+    settings: &[u32; 12],
     tape: &[u8],
     workspace: &mut [u8],
     picture: &mut [u8],

@@ -1,4 +1,5 @@
--- DOCUMENT 01'S CASES a TO l, cases of letters without ink, and some more: tapes and settings, and what Wrap and Draw make of them, by computation.
+-- DOCUMENT 01'S CASES a TO l, cases of letters without ink, of other house settings, and some more: tapes and settings,
+-- and what Wrap and Draw make of them, by computation.
 use mathlib.Core.Path.{_≡_, refl}
 use mathlib.Core.List.{List, [], _∷_, _++_, map, flatten}
 use Prim.Native.Nat.{ℕ, _+_, _-_, _*_}
@@ -26,8 +27,10 @@ use Rattle.compositor.specs.Order.{Stroke, glyphStrokes, lineStrokes, li
 use Rattle.compositor.specs.Picture.{strokesOn, rowAfter}
 use Rattle.compositor.specs.Draw.{tapeStrokes, cueCall, drawCall}
 use Rattle.compositor.specs.Plain.{plainStart}
+use Rattle.compositor.specs.House.{withHouse}
 
--- white letters with a black outline, in lines as high as a cell, drawn in a glyph mode
+-- white letters with a black outline, in lines as high as a cell, drawn in a glyph mode; side margin, slant and outline
+-- cap are the old numbers
 abbrev pub settingsIn : ℕ → ℕ → ℕ → ℕ → ℕ → ℕ → Settings
 settingsIn mode width height margin outline align =
     record {
@@ -40,6 +43,9 @@ settingsIn mode width height margin outline align =
       «outline_px» = outline;
       align = align;
       «glyph_mode» = mode;
+      «side_margin_px» = 8;
+      slant = 2;
+      «outline_cap_px» = 2;
     }
 
 -- in mode 0
@@ -111,6 +117,45 @@ pub record BareCases : Type 0 where
   -- each has a cell of its own
   pub cells :
       Strokes (λ t. t .x - origin) (settings 48 0 0 0 1) 0 (lettersBytes (0x41 ∷ 0x01 ∷ 0x42 ∷ 0x20 ∷ 0xad ∷ 0x43 ∷ [])) (8 ∷ 24 ∷ 48 ∷ [])
+
+-- an italic letter
+abbrev italic : ℕ → List ℕ
+italic code = 0x07 ∷ letterBytes code ++ (0x00 ∷ [])
+
+-- T of AB at an outline and a cap
+abbrev Capped : ℕ → ℕ → ℕ → Type 0
+Capped outline cap n = onAccepted length (drawCall (withHouse 8 2 cap (settings 32 0 0 outline 0)) leastRoom 0 AB) ≡ accepted n
+
+-- side margins, slants and outline caps
+pub record HouseCases : Type 0 where
+  -- a line of 40 pixels, left and right, at both ends of the range; the centre stays
+  pub margins :
+      (lineStart (withHouse 0 2 2 (settings 101 0 0 0 1)) 40 ≡ origin)
+      × (lineStart (withHouse 0 2 2 (settings 101 0 0 0 3)) 40 ≡ origin + 61)
+      × (lineStart (withHouse 255 2 2 (settings 101 0 0 0 2)) 40 ≡ origin + 255)
+      × (lineStart (withHouse 255 2 2 (settings 101 0 0 0 4)) 40 ≡ origin - 194)
+      × (lineStart (withHouse 255 2 2 (settings 101 0 0 0 0)) 40 ≡ origin + 30)
+  -- an A aligned right on a picture of one cell begins left of it
+  pub off : plainStart (withHouse 1 2 2 (settings 8 0 0 0 3)) 8 ≡ negsuc 0
+  -- the margin enters neither the column limit nor the centre: two letters on one line
+  pub centre : Strokes (λ t. t .x - origin) (withHouse 16 2 2 (settings 16 0 0 0 0)) 0 AB (0 ∷ 8 ∷ [])
+  -- an italic letter and an upright one
+  pub leans :
+      Strokes (λ t. t .offsets) (withHouse 8 8 2 (settings 32 0 0 0 1)) 0 (italic 0x41 ++ (0x02 ∷ 0x42 ∷ []))
+      ((14 ∷ 14 ∷ 13 ∷ 13 ∷ 12 ∷ 12 ∷ 11 ∷ 11 ∷ 10 ∷ 10 ∷ 9 ∷ 9 ∷ 8 ∷ 7 ∷ 7 ∷ 6 ∷ []) ∷ replicate 16 8 ∷ [])
+  pub upright : Strokes (λ t. t .offsets) (withHouse 8 0 2 (settings 32 0 0 0 1)) 0 (italic 0x41) (replicate 16 8 ∷ [])
+  -- the box's row 13 is 7E hexadecimal; below the base line it leans to the left by a half column, rounded to a whole one
+  pub below :
+      onAccepted (λ ts. rowAfter (withHouse 0 8 2 (settings 8 16 0 0 1)) ts 1 13)
+      (drawCall (withHouse 0 8 2 (settings 8 16 0 0 1)) leastRoom 512 (0x07 ∷ 0x03 ∷ 0x01 ∷ 0x00 ∷ 0x00 ∷ []))
+      ≡ accepted (replicate 24 255 ++ replicate 8 0)
+  -- an outline of 9 is the cap's, and one below the cap is its own
+  pub caps : Capped 9 0 2 × Capped 9 1 18 × Capped 9 3 50 × Capped 9 4 66 × Capped 4 4 66 × Capped 3 4 50
+  -- what is refused, and what is not yet
+  pub margin-range : Refuses (withHouse 256 2 2 (settings 1 1 0 0 0)) 0 (0x0c ∷ []) 8 0
+  pub slant-range : Refuses (withHouse 8 9 2 (settings 1 1 0 0 0)) 0 (0x0c ∷ []) 8 0
+  pub cap-range : Refuses (withHouse 8 2 5 (settings 1 1 0 0 0)) 0 (0x0c ∷ []) 8 0
+  pub most : Refuses (withHouse 255 8 4 (settings 1 1 0 0 0)) 4 (0x0c ∷ []) 1 0
 
 -- some more
 pub record Cases : Type 0 where
@@ -191,6 +236,23 @@ bare-cases =
       none = (refl, refl);
       box = refl;
       cells = refl;
+    }
+
+pub house-cases : HouseCases
+unfolding hasInk boldTable cueCall tapeStrokes outOfRange drawing linesStrokes lineStrokes glyphStrokes displacements displacementRows displacementRow lineStart baseLine rowAfter strokesOn strokeRow paintColumns paintColumn blendPixel blendOver blendByte blendAlpha tabulate regularTable wrapRuns visibleCols logicalLines tokenise isSpaceToken chunks putChunks addOrBreak putToken putTokens fill withoutLast upFrom flatten tapeLetters tapeRuns read faultOf commandOf codePoint isLetter isOpener isScalar added mergeInto lettersOf sameStyle letterBytes
+house-cases =
+    record {
+      margins = (refl, refl, refl, refl, refl);
+      off = refl;
+      centre = refl;
+      leans = refl;
+      upright = refl;
+      below = refl;
+      caps = (refl, refl, refl, refl, refl, refl);
+      margin-range = refl;
+      slant-range = refl;
+      cap-range = refl;
+      most = refl;
     }
 
 pub cases : Cases

@@ -18,7 +18,7 @@ use Rattle.compositor.specs.declared.Settings.{Settings}
 use Rattle.compositor.specs.Settings.{rowBytes}
 use Rattle.compositor.specs.Layout.{columnLimit, baseLine, lineWidth, lineStart}
 use Rattle.compositor.specs.Outline.{outlineOf, displacements}
-use Rattle.compositor.specs.Order.{Stroke, stroke, outlineStrokes, glyphStrokes, colorOf, letterRows, letterGlyph, lineStrokes, linesStrokes, drawing}
+use Rattle.compositor.specs.Order.{Stroke, stroke, outlineStrokes, glyphStrokes, colorOf, letterRows, letterSlant, anyLetterStrokes, lineStrokes, linesStrokes, drawing}
 use Rattle.compositor.specs.Picture.{strokeOn, strokesOn, rowAfter}
 use Rattle.compositor.specs.Inkless.{withInk, lineOfAll, linesOfAll, drawingOfAll, InkAlone, InklessLeftOut}
 use Rattle.compositor.proofs.Total.{total}
@@ -65,8 +65,8 @@ module _ (s : Settings) where
   unfolding lineStrokes lineOfAll withInk
   line-ink x base [] = refl
   line-ink x base (l ∷ ls) =
-      ap₂ (λ (a b : List Stroke). a ++ b) (sym (glyph-ink (letterRows s l) (rowOffsets (l .style .italic)) (s .«outline_color») (colorOf (l .style)) (outlineOf s) x base)) (line-ink (x + cellW) base ls)
-      ∙ sym (ink-append (letterGlyph s l x base) (lineOfAll s (x + cellW) base ls))
+      ap₂ (λ (a b : List Stroke). a ++ b) (sym (glyph-ink (letterRows s l) (rowOffsets (letterSlant s l)) (s .«outline_color») (colorOf (l .style)) (outlineOf s) x base)) (line-ink (x + cellW) base ls)
+      ∙ sym (ink-append (anyLetterStrokes s l x base) (lineOfAll s (x + cellW) base ls))
 
   lines-ink : (ls : List Letter) (lines : List Line) → linesStrokes s ls lines ≡ withInk (linesOfAll s ls lines)
   unfolding linesStrokes linesOfAll withInk

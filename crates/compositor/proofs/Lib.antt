@@ -17,3 +17,4 @@ pub mod Plain  -- document 01's signed formulas for lines, and sums of signed nu
 pub mod PlainStrokes  -- strokes, offsets and displacements in signed numbers
 pub mod Replaced  -- the law: drawing in glyph mode 1 is drawing the replaced letters in mode 0
 pub mod Inkless  -- the law: strokes without ink may be left out of a picture drawn whole
+pub mod House  -- the law: what side margin, slant and outline cap change and what they leave

@@ -19,9 +19,10 @@ use Rattle.compositor.specs.declared.Settings.{Settings}
 use Rattle.font.specs.declared.paint.Rows.{Rows}
 use Rattle.font.proofs.EveryEntry.{All, all-weaker, all-append, all-if, all-take, all-drop}
 use Rattle.compositor.specs.declared.strokes.Window.{Window}
+use Rattle.compositor.specs.Settings.{mostOutlineCap}
 use Rattle.compositor.specs.Layout.{lineHeight, baseLine, lineWidth, lineStart}
 use Rattle.compositor.specs.Outline.{atDistance, outlineOf, displacementRow, displacementRows, displacements}
-use Rattle.compositor.specs.Order.{Stroke, stroke, outlineStrokes, glyphStrokes, letterRows, letterGlyph, letterStrokes, lineStrokes}
+use Rattle.compositor.specs.Order.{Stroke, stroke, outlineStrokes, glyphStrokes, letterRows, anyLetterStrokes, letterStrokes, lineStrokes}
 use Rattle.compositor.specs.Picture.{strokeOn, strokesOn}
 use Rattle.compositor.specs.Read.{lettersAt, strokesAt}
 use Rattle.compositor.specs.Painting.{cut, after, offRows, Painted}
@@ -81,7 +82,7 @@ module _ (s : Settings) where
   line-around x y [] = tt
   line-around x y (l ∷ ls) =
       all-append (Within y y (outlineOf s)) (letterStrokes s l x y) (lineStrokes s (x + cellW) y ls)
-      (all-if (Within y y (outlineOf s)) (hasInk (letterRows s l)) (letterGlyph s l x y) (glyph-around y (outlineOf s) _ _ _ x _)) (line-around (x + cellW) y ls)
+      (all-if (Within y y (outlineOf s)) (hasInk (letterRows s l)) (anyLetterStrokes s l x y) (glyph-around y (outlineOf s) _ _ _ x _)) (line-around (x + cellW) y ls)
 
   -- a line with more lines below it stands higher
   base-higher : (a b : ℕ) → a ≤ b → baseLine s b ≤ baseLine s a
@@ -102,7 +103,7 @@ module _ (s : Settings) where
 
 -- ---- on lent rows
 
-module _ (rows : Rows) (high low o : ℕ) (far : 32 ≤ high) (thin : o ≤ 2) (off : offRows rows high low o ≡ true) where
+module _ (rows : Rows) (high low o : ℕ) (far : 32 ≤ high) (thin : o ≤ mostOutlineCap) (off : offRows rows high low o ≡ true) where
   -- such a stroke is above a lent row, or below it
   spared : (t : Stroke) (j : ℕ) (row : List ℕ) → j < rows .count → high ≤ t .base + o → t .base ≤ low + o → strokeOn t (rows .first + j) row ≡ row
   unfolding offRows

@@ -9,7 +9,7 @@ use lib.Dec.{ltb, eqb, leb}
 use lib.IntN.{ℤ, pos, negsuc, negℤ, subℕ, _+ℤ_, _-ℤ_}
 use Rattle.font.specs.Paint.{origin}
 use Rattle.compositor.specs.declared.Settings.{Settings}
-use Rattle.compositor.specs.Layout.{lineHeight, lastBaseLine, baseLine, sideMargin, lineStart}
+use Rattle.compositor.specs.Layout.{lineHeight, lastBaseLine, baseLine, lineStart}
 use Rattle.compositor.specs.Plain.{signed, half, plainStart, plainBaseLine}
 
 -- ---- a − b of two naturals
@@ -77,6 +77,11 @@ placed a b h =
     let e : origin - suc (origin + a - b) ≡ b - suc a = omega arith in
     is-sub (origin + a - b) origin ∙ from-below (origin + a - b) origin (omega arith) ∙ ap negsuc e ∙ sym (from-below a b k))
 
+-- nothing less m
+pub from-zero : (m : ℕ) → subℕ 0 m ≡ negℤ (pos m)
+from-zero zero = refl
+from-zero (suc m) = let e : suc m - 1 ≡ m = omega arith in from-below 0 (suc m) (omega arith) ∙ ap negsuc e
+
 -- half of a − b, towards zero
 halved : (a b : ℕ) → subℕ ((a - b) / 2) ((b - a) / 2) ≡ half (pos a -ℤ pos b)
 halved a b =
@@ -88,12 +93,8 @@ halved a b =
     (λ k.
     let none : (a - b) / 2 ≡ 0 = omega arith in
     let e : (b - a) / 2 ≡ suc (b - suc a) / 2 = omega arith in
-    ap (λ (m : ℕ). subℕ m ((b - a) / 2)) none ∙ down ((b - a) / 2) ∙ ap (λ (m : ℕ). negℤ (pos m)) e
+    ap (λ (m : ℕ). subℕ m ((b - a) / 2)) none ∙ from-zero ((b - a) / 2) ∙ ap (λ (m : ℕ). negℤ (pos m)) e
     ∙ sym (ap half (is-sub a b ∙ from-below a b k)))
-  where
-    down : (m : ℕ) → subℕ 0 m ≡ negℤ (pos m)
-    down zero = refl
-    down (suc m) = let e : suc m - 1 ≡ m = omega arith in from-below 0 (suc m) (omega arith) ∙ ap negsuc e
 
 -- and less once more
 twice : (a b c : ℕ) → subℕ a (b + c) ≡ pos a -ℤ pos b -ℤ pos c
@@ -122,21 +123,26 @@ twice a b c =
 -- ---- the law
 
 module _ (s : Settings) where
-  pub start-plain : (w : ℕ) → w + sideMargin ≤ origin → signed (lineStart s w) ≡ plainStart s w
+  abbrev margin : ℕ
+  margin = s .«side_margin_px»
+
+  pub start-plain : (w : ℕ) → w + margin ≤ origin → signed (lineStart s w) ≡ plainStart s w
   unfolding lineStart
   start-plain w h = by (eqb (s .align) 0) (leb (s .align) 2)
     where
       by : (centre left : Bool)
           → pos
           (cond centre (origin + (s .width - w) / 2 - (w - s .width) / 2)
-          (cond left (origin + sideMargin) (origin + s .width - w - sideMargin)))
+          (cond left (origin + margin) (origin + s .width - w - margin)))
           -ℤ pos origin
-          ≡ cond centre (half (pos (s .width) -ℤ pos w)) (cond left (pos sideMargin) (pos (s .width) -ℤ pos w -ℤ pos sideMargin))
+          ≡ cond centre (half (pos (s .width) -ℤ pos w)) (cond left (pos margin) (pos (s .width) -ℤ pos w -ℤ pos margin))
       by true left = placed ((s .width - w) / 2) ((w - s .width) / 2) (omega arith) ∙ halved (s .width) w
-      by false true = refl
+      by false true =
+          let e : origin + margin - origin ≡ margin = omega arith in
+          is-sub (origin + margin) origin ∙ from-above (origin + margin) origin (omega arith) ∙ ap pos e
       by false false =
-          let e : origin + s .width - w - sideMargin ≡ origin + s .width - (w + sideMargin) = omega arith in
-          ap (λ (m : ℕ). pos m -ℤ pos origin) e ∙ placed (s .width) (w + sideMargin) h ∙ twice (s .width) w sideMargin
+          let e : origin + s .width - w - margin ≡ origin + s .width - (w + margin) = omega arith in
+          ap (λ (m : ℕ). pos m -ℤ pos origin) e ∙ placed (s .width) (w + margin) h ∙ twice (s .width) w margin
 
   pub base-plain : (below : ℕ) → below * lineHeight s ≤ origin → signed (baseLine s below) ≡ plainBaseLine s below
   unfolding baseLine

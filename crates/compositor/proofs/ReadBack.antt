@@ -8,12 +8,12 @@ use native.Mathlib.Nat.{zero-add, add-zero, suc-add, add-suc}
 use native.Mathlib.Numerals.{add-one}
 use lib.ListN.{length}
 use Rattle.font.specs.Font.{cellW, tableOf, glyphRows}
-use Rattle.font.specs.Slant.{rowOffsets}
+use Rattle.font.specs.Slant.{mostSlant, rowOffsets}
 use Rattle.font.specs.declared.GlyphKey.{GlyphKey}
 use Rattle.font.specs.declared.Pen.{Pen}
 use Rattle.font.specs.declared.paint.Spot.{Spot}
 use Rattle.font.specs.Shear.{penOf, Prepared}
-use Rattle.font.proofs.Rounding.{leans-back, shear-of}
+use Rattle.font.proofs.Rounding.{slant-back, shear-of}
 use Rattle.tape.specs.Runs.{Letter}
 use Rattle.tape.specs.Stored.{letterAt}
 use Rattle.wrap.specs.Shown.{inkedLetters}
@@ -22,31 +22,32 @@ use Rattle.wrap.proofs.InkCounts.{inked-append}
 use Rattle.compositor.specs.declared.Settings.{Settings}
 use Rattle.compositor.specs.Layout.{baseLine, lineWidth, lineStart}
 use Rattle.compositor.specs.Outline.{outlineOf, displacements}
-use Rattle.compositor.specs.Order.{Stroke, glyphStrokes, colorOf, letterGlyph, letterStrokes, lineStrokes}
+use Rattle.compositor.specs.Order.{Stroke, glyphStrokes, colorOf, letterSlant, anyLetterStrokes, letterStrokes, lineStrokes}
 use Rattle.compositor.specs.Read.{lettersAt, lettersFrom, strokesAt, Readable}
 use Rattle.compositor.specs.Painting.{Fonts, strokeOf, strokesOf}
 use Rattle.compositor.specs.Ready.{Lined}
+use Rattle.compositor.proofs.Ranges.{slant-small}
 
 -- ---- a letter
 
-module _ {regular bold slanted : List ℕ} (fonts : Fonts regular bold slanted) where
+module _ {slant : ℕ} {regular bold slanted : List ℕ} (fonts : Fonts slant regular bold slanted) (few : slant ≤ mostSlant) where
   table-is : (b : Bool) → cond b bold regular ≡ tableOf b
   table-is true = fonts .bold-is
   table-is false = fonts .regular-is
 
-  offsets-are : (italic : Bool) → cond italic slanted (rowOffsets false) ≡ rowOffsets italic
+  offsets-are : (italic : Bool) → cond italic slanted (rowOffsets 0) ≡ rowOffsets (cond italic slant 0)
   offsets-are true = fonts .slanted-is
   offsets-are false = refl
 
   -- what is taken out of the tables is what a pen asks for
-  pub prepared : (key : GlyphKey) (k : List ℕ) (b italic : Bool) {pen : Pen} {glyph offsets : List ℕ} → pen ≡ penOf k b italic
-      → glyph ≡ glyphRows (cond b bold regular) (key .mode) (key .code) → offsets ≡ cond italic slanted (rowOffsets false) → Prepared key pen glyph offsets
+  pub prepared : (key : GlyphKey) (k : List ℕ) (b italic : Bool) {pen : Pen} {glyph offsets : List ℕ} → pen ≡ penOf k b (cond italic slant 0)
+      → glyph ≡ glyphRows (cond b bold regular) (key .mode) (key .code) → offsets ≡ cond italic slanted (rowOffsets 0) → Prepared key pen glyph offsets
   prepared key k b italic {pen} {glyph} {offsets} p g f =
       subst (λ (q : Pen). Prepared key q glyph offsets) (sym p)
       record {
-        shear = shear-of italic;
+        shear = shear-of _ (slant-small few italic);
         glyph-is = g ∙ ap (λ (table : List ℕ). glyphRows table (key .mode) (key .code)) (table-is b);
-        offsets-are = f ∙ offsets-are italic ∙ ap rowOffsets (sym (leans-back italic));
+        offsets-are = f ∙ offsets-are italic ∙ ap rowOffsets (sym (slant-back _ (slant-small few italic)));
       }
 
 module _ (s : Settings) where
@@ -56,12 +57,13 @@ module _ (s : Settings) where
 
   -- the strokes of its glyph are those of its two pens
   pub letter-strokes : (l : Letter) (at : Spot) {code o : ℕ} {outline own : Pen} → code ≡ l .code → o ≡ outlineOf s
-      → outline ≡ penOf (s .«outline_color») (l .style .bold) (l .style .italic) → own ≡ penOf (colorOf (l .style)) (l .style .bold) (l .style .italic)
-      → strokesOf (keyOf code) outline o at (displacements o) ++ (strokeOf (keyOf code) own at ∷ []) ≡ letterGlyph s l (at .x) (at .base)
+      → letterSlant s l ≤ mostSlant
+      → outline ≡ penOf (s .«outline_color») (l .style .bold) (letterSlant s l) → own ≡ penOf (colorOf (l .style)) (l .style .bold) (letterSlant s l)
+      → strokesOf (keyOf code) outline o at (displacements o) ++ (strokeOf (keyOf code) own at ∷ []) ≡ anyLetterStrokes s l (at .x) (at .base)
   unfolding glyphStrokes
-  letter-strokes l at c r p q =
+  letter-strokes l at c r few p q =
       (λ i. strokesOf (keyOf (c i)) (p i) (r i) at (displacements (r i)) ++ (strokeOf (keyOf (c i)) (q i) at ∷ []))
-      ∙ λ i. glyphStrokes (glyphRows (tableOf (l .style .bold)) (s .«glyph_mode») (l .code)) (rowOffsets (leans-back (l .style .italic) i)) (s .«outline_color») (colorOf (l .style))
+      ∙ λ i. glyphStrokes (glyphRows (tableOf (l .style .bold)) (s .«glyph_mode») (l .code)) (rowOffsets (slant-back (letterSlant s l) few i)) (s .«outline_color») (colorOf (l .style))
       (outlineOf s) (at .x) (at .base)
 
   module _ (ws : List ℕ) where

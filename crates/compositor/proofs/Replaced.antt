@@ -88,6 +88,7 @@ pub replaced-first : ReplacedFirst
 unfolding tapeStrokes
 replaced-first =
     record {
+      ownMode = λ s. refl;
       ofLetters = drawn-replaced;
       ofTape = λ s tape i. onAccepted (λ ls. strokes s ls i) (tapeLetters (defaultWith (s .«default_color»)) tape);
     }

@@ -2,7 +2,7 @@
 use mathlib.Core.Path.{_≡_, _∙_, refl, sym, ap, ap₂}
 use mathlib.Core.Bool.{Bool, true, false, cond}
 use mathlib.Core.List.{List, [], _∷_, map, flatten}
-use Prim.Native.Nat.{ℕ, _+_, _-_, _*_, _≤_}
+use Prim.Native.Nat.{ℕ, _+_, _-_, _*_}
 use native.Mathlib.Nat.{zero-mul, one-mul, add-mul}
 use native.Mathlib.Omega.{arith}
 use lib.ListN.{length, length-append, length-map}
@@ -12,12 +12,12 @@ use Rattle.tape.specs.Runs.{Letter}
 use Rattle.wrap.specs.Lines.{Line, letterOf, visibleCols, wrapRuns}
 use Rattle.wrap.specs.Shown.{inkedLetters}
 use Rattle.wrap.specs.Laid.{inkedIn}
-use Rattle.wrap.proofs.InkCounts.{one-ink, ink-append}
+use Rattle.wrap.proofs.InkCounts.{ink-append}
 use Rattle.wrap.proofs.AllInked.{all-inked}
 use Rattle.compositor.specs.declared.Settings.{Settings}
 use Rattle.compositor.specs.Layout.{columnLimit, baseLine, lineWidth, lineStart}
 use Rattle.compositor.specs.Outline.{outlineOf, displacements}
-use Rattle.compositor.specs.Order.{Stroke, stroke, outlineStrokes, glyphStrokes, letterGlyph, letterStrokes, lineStrokes, linesStrokes, drawing}
+use Rattle.compositor.specs.Order.{Stroke, stroke, outlineStrokes, glyphStrokes, anyLetterStrokes, letterStrokes, lineStrokes, linesStrokes, drawing}
 use Rattle.compositor.proofs.Outlines.{displacements-length}
 
 glyph-length : (glyph offsets k own : List ℕ) (o x base : ℕ) → length (glyphStrokes glyph offsets k own o x base) ≡ 1 + 8 * o
@@ -32,7 +32,7 @@ module _ (s : Settings) where
   each = 1 + 8 * outlineOf s
 
   -- the two cases of a letter
-  pub letter-inked : (l : Letter) (x base : ℕ) → isInked (l .code) ≡ true → letterStrokes s l x base ≡ letterGlyph s l x base
+  pub letter-inked : (l : Letter) (x base : ℕ) → isInked (l .code) ≡ true → letterStrokes s l x base ≡ anyLetterStrokes s l x base
   letter-inked l x base e = rw (ink-rule (l .style .bold) (s .«glyph_mode») (l .code), e)
 
   pub letter-bare : (l : Letter) (x base : ℕ) → isInked (l .code) ≡ false → letterStrokes s l x base ≡ []
@@ -72,9 +72,3 @@ module _ (s : Settings) where
   unfolding drawing
   total ls =
       lines-length ls (wrapRuns ls (columnLimit s)) ∙ ap (λ (n : ℕ). n * each) (all-inked ls (columnLimit s))
-
--- and so at most so many times
-pub inked-few : (ls : List Letter) → inkedLetters ls ≤ length ls
-unfolding inkedLetters
-inked-few [] = omega arith
-inked-few (l ∷ ls) = let rest = inked-few ls in let one = one-ink (l .code) in omega arith

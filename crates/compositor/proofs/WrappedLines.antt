@@ -17,16 +17,18 @@ use Rattle.wrap.proofs.AllInked.{all-inked}
 use Rattle.wrap.proofs.EachLetterOnce.{known}
 use Rattle.compositor.specs.declared.Settings.{Settings}
 use Rattle.compositor.specs.Layout.{columnLimit}
-use Rattle.compositor.specs.Outline.{mostOutline, outlineOf}
+use Rattle.compositor.specs.Settings.{mostOutlineCap}
+use Rattle.compositor.specs.Outline.{outlineOf}
 use Rattle.compositor.specs.Order.{Stroke, linesStrokes, drawing}
 use Rattle.compositor.specs.Read.{lettersAt, lettersFrom, strokesAt, strokesIn, Readable}
-use Rattle.compositor.specs.Ready.{mostLines, mostStrokes, CueLaid}
+use Rattle.compositor.specs.Ready.{InRange, mostLines, mostStrokes, CueLaid}
+use Rattle.compositor.proofs.Ranges.{outline-small}
 use Rattle.compositor.proofs.WorkspaceHolds.{readable, totals-back, strokes-back, letters-back-all}
 use Rattle.compositor.proofs.Total.{total}
 
 -- T is small
-pub total-small : (inked o : ℕ) → inked ≤ mostLetters → o ≤ mostOutline → inked * (1 + 8 * o) ≤ mostStrokes
-total-small inked o h k = mul-le-mul h (let each : 1 + 8 * o ≤ 1 + 8 * mostOutline = omega arith in each)
+pub total-small : (inked o : ℕ) → inked ≤ mostLetters → o ≤ mostOutlineCap → inked * (1 + 8 * o) ≤ mostStrokes
+total-small inked o h k = mul-le-mul h (let each : 1 + 8 * o ≤ 1 + 8 * mostOutlineCap = omega arith in each)
 
 module _ {ls : List Letter} {limit : ℕ} {made : Lines} {ws : List ℕ} (laid : Laid ls limit made ws) where
   abbrev r : List Line
@@ -51,15 +53,15 @@ module _ {ls : List Letter} {limit : ℕ} {made : Lines} {ws : List ℕ} (laid :
         ∙ ap (λ (L : ℕ). linesStrokes s ls (wrapRuns ls L)) limit-is
 
     -- they can be drawn, where a letter with ink has so many strokes
-    pub cue-laid : (o : Outcome (List Stroke)) → o ≡ accepted (drawing s ls) → (each : ℕ) → each ≡ 1 + 8 * outlineOf s → leastRoom ≤ length ws
+    pub cue-laid : InRange s → (o : Outcome (List Stroke)) → o ≡ accepted (drawing s ls) → (each : ℕ) → each ≡ 1 + 8 * outlineOf s → leastRoom ≤ length ws
         → made .letters ≤ mostLetters → made .inked ≤ mostLetters → made .lines ≤ mostLines → CueLaid s o ws (made .lines) (made .inked * each)
-    cue-laid o means each e room few-letters few-inked few =
+    cue-laid range o means each e room few-letters few-inked few =
         record {
           lined = record { readable = lines-readable room few-letters; few = few; inked = totals-read };
           means = means ∙ ap accepted (sym strokes-are);
           counts =
-              ap₂ (λ (n m : ℕ). n * m) (laid .withInk ∙ all-inked ls limit) e
+              ap₂ (λ (n m : ℕ). n * m) (laid .inkedOnLines ∙ all-inked ls limit) e
               ∙ sym (total s ls)
               ∙ ap length (sym strokes-are);
-          few = rw e (total-small (made .inked) (outlineOf s) few-inked (omega arith));
+          few = rw e (total-small (made .inked) (outlineOf s) few-inked (outline-small s range));
         }

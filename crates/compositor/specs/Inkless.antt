@@ -16,7 +16,7 @@ use Rattle.wrap.specs.Shown.{inkedLetters}
 use Rattle.compositor.specs.declared.Settings.{Settings}
 use Rattle.compositor.specs.Layout.{columnLimit, baseLine, lineWidth, lineStart}
 use Rattle.compositor.specs.Outline.{outlineOf}
-use Rattle.compositor.specs.Order.{Stroke, letterGlyph, drawing}
+use Rattle.compositor.specs.Order.{Stroke, anyLetterStrokes, drawing}
 use Rattle.compositor.specs.Picture.{strokeOn, strokesOn, pictureAfter}
 
 -- the strokes that have ink
@@ -28,7 +28,7 @@ withInk (t ∷ ts) = cond (hasInk (t .rows)) (t ∷ withInk ts) (withInk ts)
 module _ (s : Settings) where
   unfoldable pub lineOfAll : ℕ → ℕ → List Letter → List Stroke
   lineOfAll x base [] = []
-  lineOfAll x base (l ∷ ls) = letterGlyph s l x base ++ lineOfAll (x + cellW) base ls
+  lineOfAll x base (l ∷ ls) = anyLetterStrokes s l x base ++ lineOfAll (x + cellW) base ls
 
   unfoldable pub linesOfAll : List Letter → List Line → List Stroke
   linesOfAll ls [] = []

@@ -1,4 +1,4 @@
--- WHERE LINES STAND: document 01, "Places and strokes", first paragraph. Definitions only.
+-- WHERE LINES STAND: document 01, "Places and strokes", first paragraph, and document 02, S-10. Definitions only.
 -- A position is counted from an origin far left of and above the picture (`origin`, of the part Paint), so that it is
 -- never negative.
 use mathlib.Core.Bool.{cond}
@@ -26,19 +26,16 @@ lastBaseLine s = s .height - s .«bottom_margin_px» - min (cellH - bearingY) ce
 unfoldable pub baseLine : Settings → ℕ → ℕ
 baseLine s below = origin + lastBaseLine s - below * lineHeight s
 
--- how far a line that is aligned left or right stays from that side of the picture
-abbrev pub sideMargin : ℕ
-sideMargin = 8
-
 -- the pixels of a line of so many columns
 abbrev pub lineWidth : ℕ → ℕ
 lineWidth columns = columns * cellW
 
--- The position at which a line of w pixels starts: left and start alike, and right and end alike. In the centre it
--- is half of width − w, towards zero: of the two quotients one is 0, the first where the line is the wider, the second
--- where the picture is.
+-- The position at which a line of w pixels starts: left and start alike, and right and end alike, the side margin away
+-- from that side of the picture. So a line that is aligned right may start left of the picture. In the centre it is
+-- half of width − w, towards zero: of the two quotients one is 0, the first where the line is the wider, the second
+-- where the picture is. The side margin enters neither there nor in L.
 unfoldable pub lineStart : Settings → ℕ → ℕ
 lineStart s w =
     cond (eqb (s .align) 0) (origin + (s .width - w) / 2 - (w - s .width) / 2)
-    (cond (leb (s .align) 2) (origin + sideMargin)
-    (origin + s .width - w - sideMargin))
+    (cond (leb (s .align) 2) (origin + s .«side_margin_px»)
+    (origin + s .width - w - s .«side_margin_px»))

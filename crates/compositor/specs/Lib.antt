@@ -10,6 +10,7 @@ pub mod Drawn
 pub mod Plain
 pub mod Replaced
 pub mod Inkless
+pub mod House
 pub mod Read
 pub mod Painting
 pub mod Ready

@@ -1,4 +1,4 @@
--- THE ONE DRAWING ORDER: document 01, "Places and strokes", second paragraph, and document 02, S-6. Definitions only.
+-- THE ONE DRAWING ORDER: document 01, "Places and strokes", second paragraph; 02, S-6, S-10. Definitions only.
 -- A caption's strokes are one list: line after line from the top, letter after letter, and of each letter with ink its
 -- outline's strokes and then its own. Strokes are counted along this list, so that a row's history is measured in inked
 -- strokes: a space, or any other letter whose glyph has no ink, takes its cell and has none.
@@ -46,15 +46,18 @@ module _ (s : Settings) where
   abbrev pub letterRows : Letter → List ℕ
   letterRows l = glyphRows (tableOf (l .style .bold)) (s .«glyph_mode») (l .code)
 
-  -- the strokes that its glyph has, with ink or without
-  abbrev pub letterGlyph : Letter → ℕ → ℕ → List Stroke
-  letterGlyph l x base =
-      let t = l .style in
-      glyphStrokes (letterRows l) (rowOffsets (t .italic)) (s .«outline_color») (colorOf t) (outlineOf s) x base
+  -- how far it leans: an upright letter by nothing, an italic one as far as the settings say
+  abbrev pub letterSlant : Letter → ℕ
+  letterSlant l = cond (l .style .italic) (s .slant) 0
+
+  -- the strokes of its glyph, with ink or without
+  abbrev pub anyLetterStrokes : Letter → ℕ → ℕ → List Stroke
+  anyLetterStrokes l x base =
+      glyphStrokes (letterRows l) (rowOffsets (letterSlant l)) (s .«outline_color») (colorOf (l .style)) (outlineOf s) x base
 
   -- a letter's strokes: none, where its glyph has no ink
   abbrev pub letterStrokes : Letter → ℕ → ℕ → List Stroke
-  letterStrokes l x base = cond (hasInk (letterRows l)) (letterGlyph l x base) []
+  letterStrokes l x base = cond (hasInk (letterRows l)) (anyLetterStrokes l x base) []
 
   -- the strokes of letters on a line, the first at position x: each advances cellW, with ink or without
   unfoldable pub lineStrokes : ℕ → ℕ → List Letter → List Stroke

@@ -1,17 +1,13 @@
--- The outline's displacements: document 01, "Places and strokes", second paragraph. Definitions only.
+-- The outline's displacements: document 01, "Places and strokes", second paragraph; 02, S-10. Definitions only.
 use mathlib.Core.Bool.{Bool, cond}
 use mathlib.Core.List.{List, [], _∷_, _++_}
 use Prim.Native.Nat.{ℕ, zero, suc, _+_, _-_, _*_, min, max}
 use lib.Dec.{eqb}
 use Rattle.compositor.specs.declared.Settings.{Settings}
 
--- the most pixels of outline that are drawn
-abbrev pub mostOutline : ℕ
-mostOutline = 2
-
--- o, how many are drawn
+-- o, how many pixels of outline are drawn
 abbrev pub outlineOf : Settings → ℕ
-outlineOf s = min (s .«outline_px») mostOutline
+outlineOf s = min (s .«outline_px») (s .«outline_cap_px»)
 
 -- A displacement moves a glyph by columns to the right and by rows down, each from −o to o. Both are written o larger,
 -- from 0 to 2o: dx is o more than the columns, and dy o more than the rows. A distance is how far one is from o.

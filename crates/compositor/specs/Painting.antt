@@ -25,11 +25,11 @@ pub record Near (at : Spot) : Type 0 where
   pub base-least : 32 ≤ at .base
   pub base-most : at .base + 16 < 2 * origin
 
--- the two tables, and the offsets of an italic pen
-pub record Fonts (regular bold slanted : List ℕ) : Type 0 where
+-- the two tables, and the offsets of a slant
+pub record Fonts (slant : ℕ) (regular bold slanted : List ℕ) : Type 0 where
   pub regular-is : regular ≡ tableOf false
   pub bold-is : bold ≡ tableOf true
-  pub slanted-is : slanted ≡ rowOffsets true
+  pub slanted-is : slanted ≡ rowOffsets slant
 
 -- the stroke of a key's glyph by a pen, and its strokes at the offsets ds of an outline of o
 abbrev pub strokeOf : GlyphKey → Pen → Spot → Stroke

@@ -2,7 +2,7 @@
 -- They are the definitions of the parts Slant, Paint, Layout and Outline once more, for whoever builds with numbers
 -- that may be below 0. It is proved that both are the same for every stroke of a caption, so that there no difference
 -- stops at 0, but beside a test that fails.
-use mathlib.Core.Bool.{Bool, cond}
+use mathlib.Core.Bool.{cond}
 use mathlib.Core.List.{List, [], _∷_, map, flatten}
 use Prim.Native.Nat.{ℕ, zero, suc, _+_, _*_, _/_, max}
 use lib.Dec.{ltb, eqb, leb}
@@ -13,7 +13,7 @@ use Rattle.font.specs.Slant.{nearest}
 use Rattle.font.specs.Blend.{blendPixel}
 use Rattle.font.specs.Paint.{origin, lit}
 use Rattle.compositor.specs.declared.Settings.{Settings}
-use Rattle.compositor.specs.Layout.{lineHeight, lastBaseLine, sideMargin}
+use Rattle.compositor.specs.Layout.{lineHeight, lastBaseLine}
 
 -- a position counted from the picture's corner
 abbrev pub signed : ℕ → ℤ
@@ -26,12 +26,12 @@ abbrev pub half : ℤ → ℤ
 half (pos n) = pos (n / 2)
 half (negsuc n) = negℤ (pos (suc n / 2))
 
--- `lineStart`: 8, or width − w − 8, or (width − w)/2 towards zero
+-- `lineStart`: the side margin, or width − w less it, or (width − w)/2 towards zero
 abbrev pub plainStart : Settings → ℕ → ℤ
 plainStart s w =
     cond (eqb (s .align) 0) (half (pos (s .width) -ℤ pos w))
-    (cond (leb (s .align) 2) (pos sideMargin)
-    (pos (s .width) -ℤ pos w -ℤ pos sideMargin))
+    (cond (leb (s .align) 2) (pos (s .«side_margin_px»))
+    (pos (s .width) -ℤ pos w -ℤ pos (s .«side_margin_px»)))
 
 -- `baseLine`: the last base line, less h for each line below
 abbrev pub plainBaseLine : Settings → ℕ → ℤ
@@ -39,14 +39,14 @@ plainBaseLine s below = pos (lastBaseLine s) -ℤ pos (below * lineHeight s)
 
 -- ---- how rows and outlines are moved
 
--- z · cellW / (4 · cellH) to the nearest whole number, halves away from zero
-abbrev pub slanted : ℤ → ℤ
-slanted (pos n) = pos (nearest (n * cellW) (4 * cellH))
-slanted (negsuc n) = negℤ (pos (nearest (suc n * cellW) (4 * cellH)))
+-- z · cellW · slant / (8 · cellH) to the nearest whole number, halves away from zero
+abbrev pub slanted : ℕ → ℤ → ℤ
+slanted slant (pos n) = pos (nearest (n * cellW * slant) (8 * cellH))
+slanted slant (negsuc n) = negℤ (pos (nearest (suc n * cellW * slant) (8 * cellH)))
 
 -- `rowOffset`: the columns by which row r of a glyph is moved to the right
-abbrev pub plainOffset : Bool → ℕ → ℤ
-plainOffset italic r = cond italic (slanted (pos bearingY -ℤ pos r)) (pos 0)
+abbrev pub plainOffset : ℕ → ℕ → ℤ
+plainOffset slant r = slanted slant (pos bearingY -ℤ pos r)
 
 -- how far a number is from 0
 abbrev pub magnitude : ℤ → ℕ
@@ -86,11 +86,11 @@ plainColumns k bits z (suc n) row =
     cond (lit bits n) (plainColumn k (z +ℤ pos n) before) before
 
 -- row r of a glyph whose left column is at x, where the glyph has such a row
-abbrev pub plainGlyphRow : List ℕ → Bool → List ℕ → ℤ → ℤ → List ℕ → List ℕ
-plainGlyphRow rows italic k x (pos r) row =
-    cond (ltb r cellH) (plainColumns k (getD rows r 0) (x +ℤ plainOffset italic r) cellW row) row
-plainGlyphRow rows italic k x (negsuc r) row = row
+abbrev pub plainGlyphRow : List ℕ → ℕ → List ℕ → ℤ → ℤ → List ℕ → List ℕ
+plainGlyphRow rows slant k x (pos r) row =
+    cond (ltb r cellH) (plainColumns k (getD rows r 0) (x +ℤ plainOffset slant r) cellW row) row
+plainGlyphRow rows slant k x (negsuc r) row = row
 
 -- `strokeRow`: the picture's row y with what a stroke has there, its base line at base
-abbrev pub plainStrokeRow : List ℕ → Bool → List ℕ → ℤ → ℤ → ℕ → List ℕ → List ℕ
-plainStrokeRow rows italic k x base y row = plainGlyphRow rows italic k x (pos (y + bearingY) -ℤ base) row
+abbrev pub plainStrokeRow : List ℕ → ℕ → List ℕ → ℤ → ℤ → ℕ → List ℕ → List ℕ
+plainStrokeRow rows slant k x base y row = plainGlyphRow rows slant k x (pos (y + bearingY) -ℤ base) row

@@ -10,13 +10,13 @@ use Rattle.tape.specs.Call.{keepsWorkspace}
 use Rattle.tape.specs.Command.{mostLetters}
 use Rattle.tape.specs.Tape.{mostBytes, leastRoom}
 use Rattle.font.specs.Font.{cellW}
+use Rattle.font.specs.Slant.{mostSlant}
 use Rattle.wrap.specs.Shown.{inkedLetters}
 use Rattle.wrap.specs.Laid.{twoByteNumbers, inkedThrough}
 pub use Rattle.wrap.specs.Laid.{mostLines}
 use Rattle.compositor.specs.declared.Settings.{Settings}
 use Rattle.compositor.specs.declared.Cue.{Cue}
-use Rattle.compositor.specs.Settings.{mostPixels, mostLineHeight, pictureBytes}
-use Rattle.compositor.specs.Outline.{mostOutline}
+use Rattle.compositor.specs.Settings.{mostPixels, mostLineHeight, mostSideMargin, mostOutlineCap, pictureBytes}
 use Rattle.compositor.specs.Order.{Stroke}
 use Rattle.compositor.specs.Draw.{Tapes, tapeStrokes, cueCall}
 use Rattle.compositor.specs.Read.{lettersAt, lettersFrom, strokesIn, Readable}
@@ -28,6 +28,9 @@ pub record InRange (s : Settings) : Type 0 where
   pub narrow : s .width ≤ mostPixels
   pub low : s .height ≤ mostPixels
   pub lines : s .«line_height_px» ≤ mostLineHeight
+  pub margin : s .«side_margin_px» ≤ mostSideMargin
+  pub slanted : s .slant ≤ mostSlant
+  pub cap : s .«outline_cap_px» ≤ mostOutlineCap
 
 -- settings and lengths that no call refuses
 pub record Admitted (s : Settings) (tape room size : ℕ) : Type 0 where
@@ -62,7 +65,7 @@ leastStart = 0x10_0000
 
 -- the most strokes of a caption
 abbrev pub mostStrokes : ℕ
-mostStrokes = mostLetters * (1 + 8 * mostOutline)
+mostStrokes = mostLetters * (1 + 8 * mostOutlineCap)
 
 -- its lines can be read, and with each how many letters with ink there are up to its end
 pub record Lined (ws : List ℕ) (lines : ℕ) : Type 0 where

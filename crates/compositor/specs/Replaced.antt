@@ -35,6 +35,9 @@ inMode mode s =
       «outline_px» = s .«outline_px»;
       align = s .align;
       «glyph_mode» = mode;
+      «side_margin_px» = s .«side_margin_px»;
+      slant = s .slant;
+      «outline_cap_px» = s .«outline_cap_px»;
     }
 
 -- Of a caption's letters. Neither the column limit nor the number of strokes depends on the mode, and letters that are
@@ -53,8 +56,10 @@ pub record DrawnReplaced (s : Settings) (ls : List Letter) : Type 0 where
       → pictureAfter (inMode 1 s) (drawing (inMode 1 s) ls) c bytes
       ≡ pictureAfter (inMode 0 s) (drawing (inMode 0 s) (map replacedLetter ls)) c bytes
 
--- of every caption, and of every tape, which is refused alike in both modes
+-- of every caption, and of every tape, which is refused alike in both modes; in its own mode nothing of the settings
+-- changes
 pub record ReplacedFirst : Type 0 where
+  pub ownMode : (s : Settings) → inMode (s .«glyph_mode») s ≡ s
   pub ofLetters : (s : Settings) (ls : List Letter) → DrawnReplaced s ls
   pub ofTape : (s : Settings) (tape : Tapes)
       → tapeStrokes (inMode 1 s) tape

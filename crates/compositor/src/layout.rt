@@ -13,8 +13,6 @@ use crate::Settings;
 use font::BitmapFont;
 use font::ORIGIN;
 
-const SIDE_MARGIN: usize = 8;
-
 // The most columns of a line.
 pub fn column_limit(s: Settings) -> usize
     requires { ⌜ InRange s ⌝ }
@@ -78,6 +76,7 @@ pub fn line_start(s: Settings, w: usize) -> usize
     ensures { λ r. ⌜ (r ≡ lineStart s w) × (leastStart ≤ r) × (r ≤ origin + mostPixels) ⌝ }
 {
     let width = s.width as usize;
+    let margin = s.side_margin_px as usize;
     if s.align == 0 {
         if width < w {
             return ORIGIN - (w - width) / 2;
@@ -85,7 +84,7 @@ pub fn line_start(s: Settings, w: usize) -> usize
         return ORIGIN + (width - w) / 2;
     }
     if s.align <= 2 {
-        return ORIGIN + SIDE_MARGIN;
+        return ORIGIN + margin;
     }
-    ORIGIN + width - w - SIDE_MARGIN
+    ORIGIN + width - w - margin
 }

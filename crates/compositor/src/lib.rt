@@ -5,12 +5,13 @@ mod layout;
 pub mod strokes;
 
 ghost use mathlib.Core.Path.{_≡_};
+ghost use mathlib.Core.Bool.{cond};
 ghost use mathlib.Core.List.{_++_};
 ghost use Prim.Native.Nat.{_+_, _*_, _≤_, _<_};
 ghost use lib.ListN.{length, drop, replicate};
 ghost use Rattle.tape.specs.Tape.{mostBytes, leastRoom};
-ghost use Rattle.compositor.specs.Settings.{outOfRange, pictureBytes};
-ghost use Rattle.compositor.specs.Outline.{mostOutline, outlineOf};
+ghost use Rattle.compositor.specs.Settings.{mostOutlineCap, outOfRange, pictureBytes};
+ghost use Rattle.compositor.specs.Outline.{outlineOf};
 ghost use Rattle.compositor.specs.Draw.{tapeStrokes, cueCall, drawPicture};
 ghost use Rattle.compositor.specs.Drawn.{Drawn};
 ghost use Rattle.compositor.specs.Read.{strokesIn};
@@ -28,11 +29,16 @@ const LAST_ALIGN: u32 = 4;
 
 const LAST_GLYPH_MODE: u32 = 1;
 
-const MOST_OUTLINE: u32 = 2;
+const MOST_SIDE_MARGIN: u32 = 255;
 
-// The nine settings, in the order in which they are kept. Sizes are in pixels; colors are red, green,
+const MOST_OUTLINE_CAP: u32 = 4;
+
+// The twelve settings, in the order in which they are kept. Sizes are in pixels; colors are red, green,
 // blue, alpha; `align`, the alignment, is 0 centre, 1 left, 2 start, which is as left, 3 right, 4 end,
-// which is as right; `glyph_mode` 1 draws four curly quotes and two dashes as plain ones, 0 as boxes.
+// which is as right; `glyph_mode` 1 draws four curly quotes and two dashes as plain ones, 0 as boxes;
+// `side_margin_px` is how far a line that is aligned left or right stays from that side; `slant` is how
+// far italic letters lean, in eighths of a cell's width; `outline_cap_px` is the most of the outline that
+// is drawn.
 pub struct Settings {
     pub width: u32,
     pub height: u32,
@@ -43,6 +49,9 @@ pub struct Settings {
     pub outline_px: u32,
     pub align: u32,
     pub glyph_mode: u32,
+    pub side_margin_px: u32,
+    pub slant: u32,
+    pub outline_cap_px: u32,
 }
 
 impl Settings {
@@ -61,7 +70,16 @@ impl Settings {
         if LAST_ALIGN < self.align {
             return true;
         }
-        LAST_GLYPH_MODE < self.glyph_mode
+        if LAST_GLYPH_MODE < self.glyph_mode {
+            return true;
+        }
+        if MOST_SIDE_MARGIN < self.side_margin_px {
+            return true;
+        }
+        if font::MOST_SLANT < self.slant {
+            return true;
+        }
+        MOST_OUTLINE_CAP < self.outline_cap_px
     }
 
     pub fn picture_bytes(self) -> usize
@@ -71,19 +89,28 @@ impl Settings {
         self.height as usize * (4 * self.width as usize)
     }
 
+    // The slant of an italic letter, or of an upright one.
+    fn slant_of(self, italic: bool) -> u32
+        ensures { λ r. ⌜ r ≡ cond italic (self .slant) 0 ⌝ }
+    {
+        if italic { self.slant } else { 0 }
+    }
+
     // The outline as it is drawn.
     fn outline(self) -> usize
-        ensures { λ r. ⌜ (r ≡ outlineOf self) × (r ≤ mostOutline) ⌝ }
+        requires { ⌜ InRange self ⌝ }
+        ensures { λ r. ⌜ (r ≡ outlineOf self) × (r ≤ mostOutlineCap) ⌝ }
     {
-        if self.outline_px < MOST_OUTLINE {
+        if self.outline_px < self.outline_cap_px {
             return self.outline_px as usize;
         }
-        MOST_OUTLINE as usize
+        self.outline_cap_px as usize
     }
 
     // The strokes of a letter with ink: its outline's, and its own.
     fn letter_strokes(self) -> usize
-        ensures { λ r. ⌜ (r ≡ 1 + 8 * outlineOf self) × (r ≤ 1 + 8 * mostOutline) ⌝ }
+        requires { ⌜ InRange self ⌝ }
+        ensures { λ r. ⌜ (r ≡ 1 + 8 * outlineOf self) × (r ≤ 1 + 8 * mostOutlineCap) ⌝ }
     {
         1 + 8 * self.outline()
     }

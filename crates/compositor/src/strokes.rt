@@ -1,6 +1,6 @@
 // The painter: the strokes of letters, in their one order, on lent rows of a picture.
 ghost use mathlib.Core.Path.{_≡_};
-ghost use mathlib.Core.Bool.{false, cond};
+ghost use mathlib.Core.Bool.{cond};
 ghost use mathlib.Core.List.{[], _∷_};
 ghost use Prim.Native.Nat.{_+_, _-_, _*_, _≤_, _<_};
 ghost use lib.ListN.{length};
@@ -12,9 +12,9 @@ ghost use Rattle.font.specs.Lent.{mostLent, Lent, Reachable};
 ghost use Rattle.tape.specs.Stored.{letterAt};
 ghost use Rattle.wrap.specs.Shown.{inkedLetters};
 ghost use Rattle.wrap.specs.Laid.{columnsOn};
-ghost use Rattle.compositor.specs.Settings.{mostPixels};
+ghost use Rattle.compositor.specs.Settings.{mostPixels, mostOutlineCap};
 ghost use Rattle.compositor.specs.Layout.{lineWidth, lineStart};
-ghost use Rattle.compositor.specs.Outline.{mostOutline, distance, atDistance, displacementRow, displacements};
+ghost use Rattle.compositor.specs.Outline.{distance, atDistance, displacementRow, displacements};
 ghost use Rattle.compositor.specs.Order.{letterStrokes, lineStrokes};
 ghost use Rattle.compositor.specs.Read.{lettersAt, strokesAt, strokesIn, Readable};
 ghost use Rattle.compositor.specs.Painting.{Near, Fonts, strokeOf, strokesOf, cut, misses, after, offRows, painted, Painted};
@@ -118,7 +118,7 @@ fn draw_displaced(
     window: Window,
 ) -> Window
     requires { ⌜ Lent (length (now part)) rows × Near at × Prepared key pen (now glyph) (now offsets)
-        × (o ≤ mostOutline) × (dx ≤ 2 * o) × (dy ≤ 2 * o) ⌝ }
+        × (o ≤ mostOutlineCap) × (dx ≤ 2 * o) × (dy ≤ 2 * o) ⌝ }
     ensures { λ r. ⌜ Painted rows (strokesOf key pen o at (displacementRow o dy dx 1))
         window (now (part .entry)) (now (part .exit)) r ⌝ }
 {
@@ -145,7 +145,7 @@ fn draw_outline_row(
     window: Window,
 ) -> Window
     requires { ⌜ Lent (length (now part)) rows × Near at × Prepared key pen (now glyph) (now offsets)
-        × (o ≤ mostOutline) × (dy ≤ 2 * o) ⌝ }
+        × (o ≤ mostOutlineCap) × (dy ≤ 2 * o) ⌝ }
     ensures { λ r. ⌜ Painted rows (strokesOf key pen o at (displacementRow o dy 0 (2 * o + 1)))
         window (now (part .entry)) (now (part .exit)) r ⌝ }
 {
@@ -170,7 +170,7 @@ fn draw_outline(
     o: usize,
     window: Window,
 ) -> Window
-    requires { ⌜ Lent (length (now part)) rows × Near at × Prepared key pen (now glyph) (now offsets) × (o ≤ mostOutline) ⌝ }
+    requires { ⌜ Lent (length (now part)) rows × Near at × Prepared key pen (now glyph) (now offsets) × (o ≤ mostOutlineCap) ⌝ }
     ensures { λ r. ⌜ Painted rows (strokesOf key pen o at (displacements o)) window (now (part .entry)) (now (part .exit)) r ⌝ }
 {
     if o == 0 {
@@ -195,11 +195,15 @@ fn glyph_of(regular: &[u8; 4096], bold: &[u8; 4096], is_bold: bool, key: GlyphKe
     font::glyph_rows(regular, key)
 }
 
-// A letter's offsets. The rows of an upright letter stay: 8 each.
+// A letter's offsets. The rows of an upright letter stay.
 fn offsets_of(slanted: &[u8; 16], italic: bool) -> [u8; 16]
-    ensures { λ r. ⌜ r ≡ cond italic (now (slanted .entry)) (rowOffsets false) ⌝ }
+    ensures { λ r. ⌜ r ≡ cond italic (now (slanted .entry)) (rowOffsets 0) ⌝ }
 {
-    if italic { *slanted } else { [8; 16] }
+    if italic {
+        *slanted
+    } else {
+        [font::UNMOVED; 16]
+    }
 }
 
 // Draws a letter of the workspace: its outline, and then itself. One without ink has no strokes.
@@ -215,8 +219,8 @@ fn draw_letter(
     at: Spot,
     window: Window,
 ) -> Window
-    requires { ⌜ Lent (length (now part)) rows × Fonts (now regular) (now bold) (now slanted)
-        × (8 * number + 8 ≤ length (now ws)) × Near at ⌝ }
+    requires { ⌜ Lent (length (now part)) rows × Fonts (s .slant) (now regular) (now bold) (now slanted)
+        × (8 * number + 8 ≤ length (now ws)) × Near at × InRange s ⌝ }
     ensures { λ r. ⌜ Painted rows (letterStrokes s (letterAt (now (ws .entry)) number) (at .x) (at .base))
         window (now (part .entry)) (now (part .exit)) r ⌝ }
 {
@@ -233,12 +237,13 @@ fn draw_letter(
         code,
     };
     let style = letter::style(ws, number);
+    let slant = s.slant_of(style.italic);
     let around = s.outline_color;
-    let outline = Pen::new(around, style.bold, style.italic);
+    let outline = Pen::new(around, style.bold, slant);
     let own = Pen::new(
         [style.red, style.green, style.blue, style.alpha],
         style.bold,
-        style.italic,
+        slant,
     );
     let glyph = glyph_of(regular, bold, own.bold, key);
     let offsets = offsets_of(slanted, style.italic);
@@ -260,8 +265,8 @@ fn draw_line(
     start: Spot,
     window: Window,
 ) -> Window
-    requires { ⌜ Lent (length (now part)) rows × Fonts (now regular) (now bold) (now slanted)
-        × Readable (now ws) (span .first + span .letters) × Near start × (start .x ≤ origin + mostPixels) ⌝ }
+    requires { ⌜ Lent (length (now part)) rows × Fonts (s .slant) (now regular) (now bold) (now slanted)
+        × Readable (now ws) (span .first + span .letters) × Near start × (start .x ≤ origin + mostPixels) × InRange s ⌝ }
     ensures { λ r. ⌜ Painted rows (lineStrokes s (start .x) (start .base) (lettersAt (now (ws .entry)) (span .first) (span .letters)))
         window (now (part .entry)) (now (part .exit)) r ⌝ }
 {
@@ -284,7 +289,7 @@ fn draw_line(
 // Whether lines with base lines from position `high` down to position `low`, outlined by o, miss the lent
 // rows.
 fn is_off(rows: Rows, high: usize, low: usize, o: usize) -> bool
-    requires { ⌜ (rows .count ≤ mostLent) × (rows .first ≤ mostLent) × (low < 2 * origin) × (o ≤ mostOutline) ⌝ }
+    requires { ⌜ (rows .count ≤ mostLent) × (rows .first ≤ mostLent) × (low < 2 * origin) × (o ≤ mostOutlineCap) ⌝ }
     ensures { λ r. ⌜ r ≡ offRows rows high low o ⌝ }
 {
     let top = ORIGIN + rows.first;
@@ -311,7 +316,7 @@ fn place_line(
     y: usize,
     window: Window,
 ) -> Window
-    requires { ⌜ Lent (length (now part)) rows × Fonts (now regular) (now bold) (now slanted)
+    requires { ⌜ Lent (length (now part)) rows × Fonts (s .slant) (now regular) (now bold) (now slanted)
         × Readable (now ws) (span .first + span .letters) × (span .inked ≡ inkedLetters (lettersAt (now ws) (span .first) (span .letters)))
         × InRange s × (line < mostLines) × (32 ≤ y) × (y + 16 < 2 * origin) ⌝ }
     ensures { λ r. ⌜ Painted rows
@@ -345,7 +350,7 @@ fn draw_each_line(
     lines: usize,
     window: Window,
 )
-    requires { ⌜ Lent (length (now part)) rows × Fonts (now regular) (now bold) (now slanted)
+    requires { ⌜ Lent (length (now part)) rows × Fonts (s .slant) (now regular) (now bold) (now slanted)
         × Lined (now ws) lines × InRange s ⌝ }
     ensures { λ _. ⌜ now (part .exit) ≡ painted rows (cut window (strokesAt s (now (ws .entry)) 0 0 lines)) (now (part .entry)) ⌝ }
 {
@@ -387,7 +392,7 @@ pub fn draw_lines(part: &mut [u8], rows: Rows, ws: &[u8], s: Settings, lines: us
     let regular = font.table();
     let heavy = BitmapFont::default_bold();
     let bold = heavy.table();
-    let italic = Pen::new([0; 4], false, true);
+    let italic = Pen::new([0; 4], false, s.slant);
     let slanted = italic.row_offsets();
     draw_each_line(part, rows, &regular, &bold, &slanted, ws, s, lines, window);
 }

@@ -1,5 +1,5 @@
 -- Cases by computation. Of S-2: the pixels that a comma meets, and a quote that leans, in order. Of S-3: what is drawn
--- for code points in each mode. Of S-6: which of them have ink.
+-- for code points in each mode. Of S-6: which of them have ink. Of S-10: how far rows are moved at a slant.
 use mathlib.Core.Path.{_≡_, refl}
 use mathlib.Core.Bool.{Bool, true, false}
 use mathlib.Core.List.{List, [], _∷_, _++_, map}
@@ -15,27 +15,27 @@ use Rattle.font.specs.Upward.{strokeAfter, metColumns, metRow, met}
 
 -- on n rows of 8 pixels from the picture's row `first` on, the j lowest rows of a glyph with its left column at position
 -- x and its row 0 on the picture's row 0 meet these pixels
-abbrev Meets : ℕ → Bool → ℕ → ℕ → ℕ → ℕ → List ℕ → Type 0
-Meets code italic x n first j ps = met (glyphRows regularTable 0 code) (rowOffsets italic) x (origin + 12) 8 n first j ≡ ps
+abbrev Meets : ℕ → ℕ → ℕ → ℕ → ℕ → ℕ → List ℕ → Type 0
+Meets code slant x n first j ps = met (glyphRows regularTable 0 code) (rowOffsets slant) x (origin + 12) 8 n first j ≡ ps
 
 -- a clear row of one pixel, on which column 3 of a comma's row 13 falls, is this after j rows of the comma in white
 abbrev After : ℕ → List ℕ → Type 0
-After j row = strokeAfter j (glyphRows regularTable 0 0x2c) (rowOffsets false) (replicate 4 255) (origin - 3) (origin - 1) 0 (replicate 4 0) ≡ row
+After j row = strokeAfter j (glyphRows regularTable 0 0x2c) (rowOffsets 0) (replicate 4 255) (origin - 3) (origin - 1) 0 (replicate 4 0) ≡ row
 
 pub record Cases : Type 0 where
   -- a comma's rows 10 to 13 are 38 38 18 30 hexadecimal
-  pub comma : Meets 0x2c false origin 16 0 16 (106 ∷ 107 ∷ 99 ∷ 100 ∷ 90 ∷ 91 ∷ 92 ∷ 82 ∷ 83 ∷ 84 ∷ [])
-  pub comma-none : Meets 0x2c false origin 16 0 0 []
-  pub comma-blank : Meets 0x2c false origin 16 0 2 []
-  pub comma-first : Meets 0x2c false origin 16 0 3 (106 ∷ 107 ∷ [])
-  pub comma-fifteen : Meets 0x2c false origin 16 0 15 (106 ∷ 107 ∷ 99 ∷ 100 ∷ 90 ∷ 91 ∷ 92 ∷ 82 ∷ 83 ∷ 84 ∷ [])
+  pub comma : Meets 0x2c 0 origin 16 0 16 (106 ∷ 107 ∷ 99 ∷ 100 ∷ 90 ∷ 91 ∷ 92 ∷ 82 ∷ 83 ∷ 84 ∷ [])
+  pub comma-none : Meets 0x2c 0 origin 16 0 0 []
+  pub comma-blank : Meets 0x2c 0 origin 16 0 2 []
+  pub comma-first : Meets 0x2c 0 origin 16 0 3 (106 ∷ 107 ∷ [])
+  pub comma-fifteen : Meets 0x2c 0 origin 16 0 15 (106 ∷ 107 ∷ 99 ∷ 100 ∷ 90 ∷ 91 ∷ 92 ∷ 82 ∷ 83 ∷ 84 ∷ [])
   -- clipped at each side
-  pub off-left : Meets 0x2c false (origin - 3) 16 0 16 (104 ∷ 96 ∷ 97 ∷ 88 ∷ 89 ∷ 80 ∷ 81 ∷ [])
-  pub off-right : Meets 0x2c false (origin + 5) 16 0 16 (111 ∷ 95 ∷ 87 ∷ [])
-  pub off-below : Meets 0x2c false origin 12 0 16 (90 ∷ 91 ∷ 92 ∷ 82 ∷ 83 ∷ 84 ∷ [])
-  pub off-above : Meets 0x2c false origin 5 11 16 (18 ∷ 19 ∷ 11 ∷ 12 ∷ 2 ∷ 3 ∷ 4 ∷ [])
-  -- a quote's rows 1 to 3 are 18 18 10, and lean by one column
-  pub leaning : Meets 0x27 true origin 16 0 16 (28 ∷ 20 ∷ 21 ∷ 12 ∷ 13 ∷ [])
+  pub off-left : Meets 0x2c 0 (origin - 3) 16 0 16 (104 ∷ 96 ∷ 97 ∷ 88 ∷ 89 ∷ 80 ∷ 81 ∷ [])
+  pub off-right : Meets 0x2c 0 (origin + 5) 16 0 16 (111 ∷ 95 ∷ 87 ∷ [])
+  pub off-below : Meets 0x2c 0 origin 12 0 16 (90 ∷ 91 ∷ 92 ∷ 82 ∷ 83 ∷ 84 ∷ [])
+  pub off-above : Meets 0x2c 0 origin 5 11 16 (18 ∷ 19 ∷ 11 ∷ 12 ∷ 2 ∷ 3 ∷ 4 ∷ [])
+  -- a quote's rows 1 to 3 are 18 18 10, and lean by one column at slant 2
+  pub leaning : Meets 0x27 2 origin 16 0 16 (28 ∷ 20 ∷ 21 ∷ 12 ∷ 13 ∷ [])
   -- a row that is painted, and one that is not yet
   pub row-early : After 2 (replicate 4 0)
   pub row-then : After 3 (replicate 4 255)
@@ -121,3 +121,20 @@ pub record InkCases : Type 0 where
 pub ink-cases : InkCases
 unfolding hasInk replaced tabulate regularTable boldTable
 ink-cases = record { without = refl; beside = refl; regular = refl; bold = refl; dot = refl }
+
+-- ---- slants
+
+pub record SlantCases : Type 0 where
+  -- slant 0 is upright, and at slant 2 the rows of the old fixed number move as they did
+  pub none : rowOffsets 0 ≡ replicate 16 8
+  pub old : rowOffsets 2 ≡ (10 ∷ replicate 8 9) ++ replicate 7 8
+  -- halves away from zero: row 4 at slant 1, above the base line, and rows 13 and 15 at slant 8, below it
+  pub least : rowOffsets 1 ≡ replicate 5 9 ++ replicate 11 8
+  pub most : rowOffsets 8 ≡ 14 ∷ 14 ∷ 13 ∷ 13 ∷ 12 ∷ 12 ∷ 11 ∷ 11 ∷ 10 ∷ 10 ∷ 9 ∷ 9 ∷ 8 ∷ 7 ∷ 7 ∷ 6 ∷ []
+  -- a comma's rows 10 to 13 move by 1, 1, 0 and −1; row 13 of the box begins off the picture
+  pub comma : Meets 0x2c 8 origin 16 0 16 (105 ∷ 106 ∷ 99 ∷ 100 ∷ 91 ∷ 92 ∷ 93 ∷ 83 ∷ 84 ∷ 85 ∷ [])
+  pub box : Meets 0x100 8 (origin - 1) 16 0 3 (104 ∷ 105 ∷ 106 ∷ 107 ∷ 108 ∷ [])
+
+pub slant-cases : SlantCases
+unfolding tabulate regularTable metColumns metRow met
+slant-cases = record { none = refl; old = refl; least = refl; most = refl; comma = refl; box = refl }

@@ -12,6 +12,7 @@ use Rattle.font.specs.Glyphs.{glyphs, printable, printableGlyph, glyphOf
 use Rattle.font.specs.Modes.{replaced}
 use Rattle.font.specs.Font.{tabulate, rowsOf, regularTable, boldTable, embolden, bearingY, cellW, cellH, tableOf, rowsAt, glyphRows, missingRows}
 use Rattle.font.specs.Ink.{hasInk, isInked}
+use Rattle.font.specs.Slant.{unmoved}
 use Rattle.font.specs.Paint.{origin, strokeRow}
 use Rattle.font.proofs.Columns.{cond-same, columns-blank}
 use Rattle.font.proofs.EveryEntry.{every, at}
@@ -117,4 +118,4 @@ pub no-ink : (rows offsets k : List ℕ) (x base y : ℕ) (row : List ℕ) → h
 unfolding strokeRow
 no-ink rows offsets k x base y row e =
     let r = origin + y - (base - bearingY) in
-    rw (zero-rows rows e r, columns-blank k (x + getD offsets r 0 - 8) cellW row) (cond-same (leb (base - bearingY) (origin + y) && ltb r cellH) row)
+    rw (zero-rows rows e r, columns-blank k (x + getD offsets r 0 - unmoved) cellW row) (cond-same (leb (base - bearingY) (origin + y) && ltb r cellH) row)

@@ -10,6 +10,7 @@ use lib.Dec.{leb, ltb}
 use lib.ListN.{length, getD}
 use Rattle.font.specs.Font.{bearingY}
 use Rattle.font.specs.Blend.{blendPixel}
+use Rattle.font.specs.Slant.{unmoved}
 use Rattle.font.specs.Paint.{origin, onRow, lit, paintColumn, paintColumns}
 use Rattle.font.specs.Upward.{blendEach, hasPixel, noneTwice, metColumns, metRow, met}
 use Rattle.font.proofs.Columns.{columns-length}
@@ -105,7 +106,7 @@ module _ (rows offsets : List ℕ) (x base width n first : ℕ) where
   -- the glyph's row r lands on row i of the part, or on none
   pub data Lands (r : ℕ) : Type 0 where
     on : (i : ℕ) → i < n → origin + (first + i) ≡ base - bearingY + r
-        → pixelsOf r ≡ metColumns (i * width) (getD rows r 0) (x + getD offsets r 0 - 8) width 8 → Lands r
+        → pixelsOf r ≡ metColumns (i * width) (getD rows r 0) (x + getD offsets r 0 - unmoved) width 8 → Lands r
     off : ((i : ℕ) → i < n → origin + (first + i) ≡ base - bearingY + r → ⊥) → pixelsOf r ≡ [] → Lands r
 
   pub lands : (r : ℕ) → Lands r
@@ -127,7 +128,7 @@ module _ (rows offsets : List ℕ) (x base width n first : ℕ) where
   row-once r = at (lands r) where
     at : Lands r → noneTwice (pixelsOf r) ≡ true
     at (off none e) = rw e refl
-    at (on i b f e) = rw e (columns-once (i * width) (getD rows r 0) (x + getD offsets r 0 - 8) width 8)
+    at (on i b f e) = rw e (columns-once (i * width) (getD rows r 0) (x + getD offsets r 0 - unmoved) width 8)
 
   -- the first row of the part on which one of the j lowest rows may land
   abbrev start : ℕ → ℕ

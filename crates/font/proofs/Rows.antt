@@ -11,6 +11,7 @@ use lib.Dec.{leb, ltb}
 use lib.ListN.{length, getD, take, drop, length-append, length-drop, take-append-drop}
 use lib.Seq.{length-take-le, take-at, drop-at, drop-drop, take-take, take-add}
 use Rattle.font.specs.Font.{bearingY}
+use Rattle.font.specs.Slant.{unmoved}
 use Rattle.font.specs.Paint.{origin, paintRow, strokeRow, eachRow}
 use Rattle.font.specs.Upward.{strokeAfter}
 use Rattle.font.proofs.Columns.{cond-length, cond-same, columns-length, columns-clear}
@@ -197,10 +198,10 @@ module _ (glyph offsets k : List ℕ) (x base y : ℕ) (row : List ℕ) where
   stroke-length =
       let r = origin + y - (base - bearingY) in
       cond-length (leb (base - bearingY) (origin + y) && ltb r 16) _ row
-      (columns-length k (getD glyph r 0) (x + getD offsets r 0 - 8) 8 row) refl
+      (columns-length k (getD glyph r 0) (x + getD offsets r 0 - unmoved) 8 row) refl
 
   pub stroke-on : (r : ℕ) → r < 16 → origin + y ≡ base - bearingY + r
-      → strokeRow glyph offsets k x base y row ≡ paintRow k (getD glyph r 0) (x + getD offsets r 0 - 8) row
+      → strokeRow glyph offsets k x base y row ≡ paintRow k (getD glyph r 0) (x + getD offsets r 0 - unmoved) row
   unfolding strokeRow
   stroke-on r h e =
       let at : origin + y - (base - bearingY) ≡ r = omega arith in
@@ -210,7 +211,7 @@ module _ (glyph offsets k : List ℕ) (x base y : ℕ) (row : List ℕ) where
   unfolding strokeRow
   stroke-clear clear =
       let r = origin + y - (base - bearingY) in
-      rw (columns-clear k clear (getD glyph r 0) (x + getD offsets r 0 - 8) 8 row) (cond-same (leb (base - bearingY) (origin + y) && ltb r 16) row)
+      rw (columns-clear k clear (getD glyph r 0) (x + getD offsets r 0 - unmoved) 8 row) (cond-same (leb (base - bearingY) (origin + y) && ltb r 16) row)
 
   pub stroke-above : origin + y < base - bearingY → strokeRow glyph offsets k x base y row ≡ row
   unfolding strokeRow
@@ -245,7 +246,7 @@ module _ (j : ℕ) (glyph offsets k : List ℕ) (x base y : ℕ) (row : List ℕ
   after-all h =
       let none : 16 - j ≡ 0 = omega arith in
       let r = origin + y - (base - bearingY) in
-      rw (none, add-zero) (cond-twice (leb (base - bearingY) (origin + y)) (ltb r 16) (paintRow k (getD glyph r 0) (x + getD offsets r 0 - 8) row) row)
+      rw (none, add-zero) (cond-twice (leb (base - bearingY) (origin + y)) (ltb r 16) (paintRow k (getD glyph r 0) (x + getD offsets r 0 - unmoved) row) row)
 
 -- all sixteen are the stroke
 pub all-rows : (glyph offsets k : List ℕ) (x base size n first : ℕ) (part : List ℕ)
@@ -274,7 +275,7 @@ module _ (j : ℕ) (glyph offsets k : List ℕ) (x base size rows first : ℕ) (
   -- row i, on which the glyph's row r falls
   pub done-turn : (i r n : ℕ) (part row : List ℕ) → Falls rows (origin + first) (base - bearingY) (16 - j) i r
       → i * size + size ≤ length whole → n ≡ size
-      → row ≡ paintRow k (getD glyph r 0) (x + getD offsets r 0 - 8) (take n (drop (i * size) part)) → Done (i + 1) part
+      → row ≡ paintRow k (getD glyph r 0) (x + getD offsets r 0 - unmoved) (take n (drop (i * size) part)) → Done (i + 1) part
       → Done i (take (i * size) part ++ (row ++ drop n (drop (i * size) part)))
   done-turn i r n part row f fits q p w =
       let old = take size (drop (i * size) part) in

@@ -9,6 +9,7 @@ use lib.Dec.{leb}
 use lib.ListN.{length, getD, take, drop, length-drop, take-append-drop}
 use lib.Seq.{length-take-le}
 use Rattle.font.specs.Font.{bearingY}
+use Rattle.font.specs.Slant.{unmoved}
 use Rattle.font.specs.Paint.{origin, paintRow, strokeRow, eachRow}
 use Rattle.font.specs.Upward.{strokeAfter, oneRow, pixelAt, blendEach, metRow, met, partAfter, lentRow, DrawnUpward, RowsFromTheBottom}
 use Rattle.font.proofs.Columns.{cond-length}
@@ -24,7 +25,7 @@ module _ (rows offsets k : List ℕ) (x base : ℕ) where
   low j = strokeAfter j rows offsets k x base
 
   one-on : (r y : ℕ) (row : List ℕ) → origin + y ≡ base - bearingY + r
-      → one r y row ≡ paintRow k (getD rows r 0) (x + getD offsets r 0 - 8) row
+      → one r y row ≡ paintRow k (getD rows r 0) (x + getD offsets r 0 - unmoved) row
   unfolding oneRow
   one-on r y row e = simp (eq-eqb (origin + y) (base - bearingY + r) e)
 
@@ -93,7 +94,7 @@ module _ (rows offsets k : List ℕ) (x base : ℕ) where
         ap (λ (m : ℕ). eachRow (one r) size m first part) (sym m)
         ∙ rows-one (one r) size i (n - suc i) first part (λ j row c. one-off r (first + j) row (λ d. c (omega arith)))
         ∙ ap (λ (l : List ℕ). front ++ (l ++ drop size rest)) (one-on r (first + i) row f)
-        ∙ sym (columns-meet k front (drop size rest) (i * width) width before (getD rows r 0) (x + getD offsets r 0 - 8) 8 row long)
+        ∙ sym (columns-meet k front (drop size rest) (i * width) width before (getD rows r 0) (x + getD offsets r 0 - unmoved) 8 row long)
         ∙ rw (split, e) refl
 
     part-none : (part : List ℕ) → part-low 0 part ≡ part

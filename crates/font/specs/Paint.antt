@@ -7,6 +7,7 @@ use lib.Dec.{eqb, leb, ltb}
 use lib.ListN.{length, getD, take, drop}
 use Rattle.font.specs.Font.{bearingY, cellW, cellH}
 use Rattle.font.specs.Blend.{blendPixel}
+use Rattle.font.specs.Slant.{unmoved}
 
 -- A position, of a column or of a row, is counted from an origin so far left of and above the picture that it is never
 -- negative: the picture's column 0 and row 0 are at 2^26. No difference that is taken from the position of a caption's
@@ -41,13 +42,12 @@ abbrev pub paintRow : List ℕ → ℕ → ℕ → List ℕ → List ℕ
 paintRow k bits x row = paintColumns k bits x cellW row
 
 -- the picture's row y with what a stroke has there: the glyph's row r that falls on it, moved by its offset. The
--- stroke's left column is at position x and its base line at position base, so that its row 0 is at base − bearingY. An
--- offset is 8 more than the columns by which the row is moved, so 8 is taken off.
+-- stroke's left column is at position x and its base line at position base, so that its row 0 is at base − bearingY.
 unfoldable pub strokeRow : List ℕ → List ℕ → List ℕ → ℕ → ℕ → ℕ → List ℕ → List ℕ
 strokeRow rows offsets k x base y row =
     let top = base - bearingY in
     let r = origin + y - top in
-    cond (leb top (origin + y) && ltb r cellH) (paintRow k (getD rows r 0) (x + getD offsets r 0 - 8) row) row
+    cond (leb top (origin + y) && ltb r cellH) (paintRow k (getD rows r 0) (x + getD offsets r 0 - unmoved) row) row
 
 -- Bytes l that begin with m rows of rowSize bytes, each changed by f, which is given the row's number too: the first is
 -- the picture's row y, the next y + 1, and so on. The bytes after them stay.

@@ -3,11 +3,11 @@
 use mathlib.Core.Path.{_≡_}
 use mathlib.Core.Bool.{Bool, true, false}
 use mathlib.Core.List.{List}
-use Prim.Native.Nat.{ℕ, _+_, _-_, _*_, _<_}
+use Prim.Native.Nat.{ℕ, _+_, _-_, _*_, _≤_, _<_}
 use lib.IntN.{pos, _-ℤ_}
-use lib.Ieee.{Float, nan, inf, fin, binary32, ofInt, lt, mul, div, up, down}
+use lib.Ieee.{Float, nan, inf, fin, binary32, ofInt, toUnsigned, mul, div, up, down}
 use Rattle.font.specs.Font.{cellW, cellH, bearingY, tableOf, glyphRows}
-use Rattle.font.specs.Slant.{nearest, rowOffsets}
+use Rattle.font.specs.Slant.{mostSlant, nearest, unmoved, rowOffsets}
 use Rattle.font.specs.Paint.{strokeRow}
 use Rattle.font.specs.declared.BitmapFont.{BitmapFont}
 use Rattle.font.specs.declared.GlyphKey.{GlyphKey}
@@ -21,31 +21,31 @@ fontOf b = record { bold = b }
 abbrev pub float : ℕ → Float
 float n = ofInt binary32 (pos n)
 
--- the shear of a pen: cell_w / 4 where it is italic, else 0
-unfoldable pub shearOf : Bool → Float
-unfolding ofInt div
-shearOf true = div binary32 (float cellW) (float 4)
-shearOf false = float 0
+-- the shear of a slant: cell_w · slant / 8
+unfoldable pub shearOf : ℕ → Float
+unfolding ofInt mul div
+shearOf slant = div binary32 (mul binary32 (float cellW) (float slant)) (float 8)
 
--- a pen of a color, bold or not, italic or not
-abbrev pub penOf : List ℕ → Bool → Bool → Pen
-penOf k b italic = record { color = k; bold = b; shear = shearOf italic }
+-- a pen of a color, bold or not, with a slant
+abbrev pub penOf : List ℕ → Bool → ℕ → Pen
+penOf k b slant = record { color = k; bold = b; shear = shearOf slant }
 
--- the shear x is an italic pen's
-unfoldable pub leans : Float → Bool
-unfolding ofInt lt
-leans x = lt (float 0) x
+-- the slant of a shear: shear · 8 / cell_w
+unfoldable pub slantOf : Float → ℕ
+unfolding ofInt toUnsigned mul div
+slantOf x = toUnsigned 32 (div binary32 (mul binary32 x (float 8)) (float cellW))
 
--- x is the shear of one of the two pens
+-- x is one of the nine shears
 pub record Shear (x : Float) : Type 0 where
-  pub is : x ≡ shearOf (leans x)
+  pub few : slantOf x ≤ mostSlant
+  pub is : x ≡ shearOf (slantOf x)
 
 -- the rows of the glyph that a key has in the font that a pen's bold mark picks, and how far the pen moves them
 abbrev pub penGlyph : GlyphKey → Pen → List ℕ
 penGlyph key pen = glyphRows (tableOf (pen .bold)) (key .mode) (key .code)
 
 abbrev pub penOffsets : Pen → List ℕ
-penOffsets pen = rowOffsets (leans (pen .shear))
+penOffsets pen = rowOffsets (slantOf (pen .shear))
 
 -- what is lent beside a pen, for the stroke of a key's glyph: exactly these
 pub record Prepared (key : GlyphKey) (pen : Pen) (glyph offsets : List ℕ) : Type 0 where
@@ -57,22 +57,23 @@ pub record Prepared (key : GlyphKey) (pen : Pen) (glyph offsets : List ℕ) : Ty
 abbrev pub penRow : GlyphKey → Pen → Spot → ℕ → List ℕ → List ℕ
 penRow key pen at y row = strokeRow (penGlyph key pen) (penOffsets pen) (pen .color) (at .x) (at .base) y row
 
--- what row r of a pen moves by before it is rounded: product before quotient
-unfoldable pub moved : Bool → ℕ → Float
+-- what row r moves by at a slant before it is rounded: product before quotient
+unfoldable pub moved : ℕ → ℕ → Float
 unfolding ofInt mul div shearOf
-moved italic r = div binary32 (mul binary32 (ofInt binary32 (pos bearingY -ℤ pos r)) (shearOf italic)) (float cellH)
+moved slant r = div binary32 (mul binary32 (ofInt binary32 (pos bearingY -ℤ pos r)) (shearOf slant)) (float cellH)
 
--- x is what one of the sixteen rows of one of the two pens moves by: 32 cases, all between −1 and 2
+-- x is what one of the sixteen rows moves by at one of the nine slants: 144 cases, from −1.5 to 6
 pub record Moved (x : Float) : Type 0 where
-  pub italic : Bool
+  pub slant : ℕ
   pub row : ℕ
+  pub few : slant ≤ mostSlant
   pub below : row < cellH
-  pub is : x ≡ moved italic row
+  pub is : x ≡ moved slant row
 
--- 8 more than x to the nearest whole number, halves away from zero, for the x of `Moved`: others may be below −8, or no
--- number, and are not rounded by the code. fin s m e is m · 2^e, negative where s is true
+-- the offset of a row that moves by x to the nearest whole number, halves away from zero, for the x of `Moved`: others
+-- may be below −8, or no number, and are not rounded by the code. fin s m e is m · 2^e, negative where s is true
 unfoldable pub rounded : Float → ℕ
-rounded nan = 8
-rounded (inf s) = 8
-rounded (fin false m e) = 8 + nearest (m * up e) (down e)
-rounded (fin true m e) = 8 - nearest (m * up e) (down e)
+rounded nan = unmoved
+rounded (inf s) = unmoved
+rounded (fin false m e) = unmoved + nearest (m * up e) (down e)
+rounded (fin true m e) = unmoved - nearest (m * up e) (down e)

@@ -9,6 +9,7 @@ use lib.Dec.{eqb, leb, ltb}
 use lib.ListN.{length, getD, take, drop}
 use Rattle.font.specs.Font.{bearingY, cellW, cellH}
 use Rattle.font.specs.Blend.{blendPixel}
+use Rattle.font.specs.Slant.{unmoved}
 use Rattle.font.specs.Paint.{origin, onRow, lit, paintRow, strokeRow, eachRow}
 
 -- ---- some rows of a stroke
@@ -23,7 +24,7 @@ strokeAfter j rows offsets k x base y row =
 -- the picture's row y with one row of a stroke: the glyph's row r, where it falls on row y
 unfoldable pub oneRow : ℕ → List ℕ → List ℕ → List ℕ → ℕ → ℕ → ℕ → List ℕ → List ℕ
 oneRow r rows offsets k x base y row =
-    cond (eqb (origin + y) (base - bearingY + r)) (paintRow k (getD rows r 0) (x + getD offsets r 0 - 8) row) row
+    cond (eqb (origin + y) (base - bearingY + r)) (paintRow k (getD rows r 0) (x + getD offsets r 0 - unmoved) row) row
 
 -- row i of bytes l that begin with rows of rowSize bytes
 abbrev pub lentRow : ℕ → ℕ → List ℕ → List ℕ
@@ -67,7 +68,7 @@ module _ (rows offsets : List ℕ) (x base width n first : ℕ) where
       let position = base - bearingY + r in
       let i = position - (origin + first) in
       cond (leb (origin + first) position && ltb i n)
-      (metColumns (i * width) (getD rows r 0) (x + getD offsets r 0 - 8) width cellW) []
+      (metColumns (i * width) (getD rows r 0) (x + getD offsets r 0 - unmoved) width cellW) []
 
   -- The pixels that its j lowest rows meet, in the order in which they are met: from the lowest row up, in each from
   -- the left. A comma, whose rows 10 to 13 are 38 38 18 30, upright in the corner of 16 rows of 8 pixels, meets none in

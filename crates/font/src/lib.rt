@@ -10,13 +10,13 @@ pub use paint::draw_glyph_sheared;
 pub use paint::draw_lowest_rows;
 ghost use mathlib.Core.Path.{_≡_};
 ghost use mathlib.Core.Bool.{true, false};
-ghost use Prim.Native.Nat.{_<_};
+ghost use Prim.Native.Nat.{_≤_, _<_};
 ghost use Rattle.font.specs.Modes.{drawnCode};
 ghost use Rattle.font.specs.Font.{tableOf, glyphRows};
 ghost use Rattle.font.specs.Ink.{isInked};
 ghost use Rattle.font.specs.Colors.{colorBytes};
-ghost use Rattle.font.specs.Slant.{rowOffset, rowOffsets};
-ghost use Rattle.font.specs.Shear.{fontOf, penOf, leans, Shear, Moved, rounded};
+ghost use Rattle.font.specs.Slant.{mostSlant, rowOffset, rowOffsets};
+ghost use Rattle.font.specs.Shear.{fontOf, penOf, slantOf, Shear, Moved, rounded};
 
 // A font: the bold mark that picks its table. The metrics, in pixels, are those of both fonts.
 pub struct BitmapFont {
@@ -126,6 +126,12 @@ pub fn color_bytes(color: u32) -> [u8; 4]
     ]
 }
 
+// The largest slant, in eighths of a cell's width.
+pub const MOST_SLANT: u32 = 8;
+
+// The offset of a row that stays; that of a row that is moved is as much larger.
+pub const UNMOVED: u8 = 8;
+
 // What a stroke is drawn with: a color, the bold mark that picks the glyph, and how far the glyph's
 // rows are sheared.
 pub struct Pen {
@@ -135,22 +141,20 @@ pub struct Pen {
 }
 
 impl Pen {
-    pub fn new(color: [u8; 4], bold: bool, italic: bool) -> Pen
-        ensures { λ r. ⌜ r ≡ penOf color bold italic ⌝ }
+    // A slant of 0 is upright.
+    pub fn new(color: [u8; 4], bold: bool, slant: u32) -> Pen
+        requires { ⌜ slant ≤ mostSlant ⌝ }
+        ensures { λ r. ⌜ r ≡ penOf color bold slant ⌝ }
     {
-        let shear = if italic {
-            BitmapFont::CELL_W as f32 / 4.0
-        } else {
-            0.0
-        };
+        let shear = BitmapFont::CELL_W as f32 * slant as f32 / 8.0;
         Pen { color, bold, shear }
     }
 
-    // How far the pen moves each row of a glyph to the right, plus 8: worked out once for a style
-    // and lent to its strokes.
+    // How far the pen moves each row of a glyph to the right, plus `UNMOVED`: worked out once for a
+    // slant and lent to its strokes.
     pub fn row_offsets(self) -> [u8; 16]
         requires { ⌜ Shear (self .shear) ⌝ }
-        ensures { λ r. ⌜ r ≡ rowOffsets (leans (self .shear)) ⌝ }
+        ensures { λ r. ⌜ r ≡ rowOffsets (slantOf (self .shear)) ⌝ }
     {
         let shear = self.shear;
         let mut offsets = [0u8; 16];
@@ -163,25 +167,25 @@ impl Pen {
     }
 }
 
-// How far row r is moved to the right, plus 8.
+// How far row r is moved to the right, plus `UNMOVED`.
 fn row_offset(shear: f32, r: usize) -> u8
     requires { ⌜ Shear shear × (r < 16) ⌝ }
-    ensures { λ x. ⌜ x ≡ rowOffset (leans shear) r ⌝ }
+    ensures { λ x. ⌜ x ≡ rowOffset (slantOf shear) r ⌝ }
 {
     let from_baseline = BitmapFont::BEARING_Y as i16 - r as i16;
     round(from_baseline as f32 * shear / BitmapFont::CELL_H as f32)
 }
 
-// What a row moves by, to the nearest whole number, halves away from zero, plus 8. Twice x is cut and
-// halved again. x is what one of the sixteen rows of one of the two pens moves by: 32 cases, and of
-// no other x is anything said.
+// What a row moves by, to the nearest whole number, halves away from zero, plus `UNMOVED`. Twice x is
+// cut and halved again. x is what one of the sixteen rows moves by at one of the nine slants: 144
+// cases, and of no other x is anything said.
 fn round(x: f32) -> u8
     requires { ⌜ Moved x ⌝ }
     ensures { λ r. ⌜ r ≡ rounded x ⌝ }
 {
     if x < 0.0 {
-        (8 - (std::num::truncating_f32_to_u64(-x * 2.0) + 1) / 2) as u8
+        (UNMOVED as u64 - (std::num::truncating_f32_to_u64(-x * 2.0) + 1) / 2) as u8
     } else {
-        (8 + (std::num::truncating_f32_to_u64(x * 2.0) + 1) / 2) as u8
+        (UNMOVED as u64 + (std::num::truncating_f32_to_u64(x * 2.0) + 1) / 2) as u8
     }
 }

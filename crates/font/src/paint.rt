@@ -4,6 +4,7 @@ ghost use Prim.Native.Nat.{_+_, _-_, _*_, _≤_, _<_, min};
 ghost use lib.ListN.{length};
 ghost use Rattle.font.specs.Font.{cellH};
 ghost use Rattle.font.specs.Blend.{blendByte, blendAlpha, blendPixel};
+ghost use Rattle.font.specs.Slant.{unmoved};
 ghost use Rattle.font.specs.Paint.{origin, paintColumn, paintBit, paintRow, eachRow};
 ghost use Rattle.font.specs.Upward.{partAfter};
 ghost use Rattle.font.specs.Shear.{penRow, Prepared};
@@ -11,6 +12,7 @@ ghost use Rattle.font.specs.Lent.{mostLent, Lent, Reachable};
 use crate::BitmapFont;
 use crate::GlyphKey;
 use crate::Pen;
+use crate::UNMOVED;
 
 // The position of the picture's column 0 and row 0.
 pub const ORIGIN: usize = 0x400_0000;
@@ -100,10 +102,10 @@ fn paint_row(row: &mut [u8], x: usize, bits: u8, color: [u8; 4])
 
 // Paints a glyph's row, moved by its offset, into the picture's row on which it falls.
 fn draw_row(row: &mut [u8], x: usize, bits: u8, offset: u8, color: [u8; 4])
-    requires { ⌜ (8 ≤ x) × (x < 2 * origin) ⌝ }
-    ensures { λ _. ⌜ now (row .exit) ≡ paintRow color bits (x + offset - 8) (now (row .entry)) ⌝ }
+    requires { ⌜ (unmoved ≤ x) × (x < 2 * origin) ⌝ }
+    ensures { λ _. ⌜ now (row .exit) ≡ paintRow color bits (x + offset - unmoved) (now (row .entry)) ⌝ }
 {
-    paint_row(row, x + offset as usize - 8, bits, color);
+    paint_row(row, x + offset as usize - UNMOVED as usize, bits, color);
 }
 
 // How many of the lent rows lie above row r of a glyph, whose row 0 is at position top.

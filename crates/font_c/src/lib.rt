@@ -39,10 +39,13 @@ fn is_near(x: usize) -> bool
     x < 2 * font::ORIGIN
 }
 
-// Whether n bytes hold these rows, and the position is near.
-fn is_admitted(n: usize, rows: Rows, at: Spot) -> bool
-    ensures { λ r. ⌜ r ≡ admitted n (rows .width) (rows .count) (rows .first) (at .x) (at .base) ⌝ }
+// Whether n bytes hold these rows, the slant is one of the nine, and the position is near.
+fn is_admitted(n: usize, rows: Rows, slant: u32, at: Spot) -> bool
+    ensures { λ r. ⌜ r ≡ admitted n (rows .width) (rows .count) (rows .first) slant (at .x) (at .base) ⌝ }
 {
+    if font::MOST_SLANT < slant {
+        return false;
+    }
     if MOST_LENT < rows.width {
         return false;
     }
@@ -62,9 +65,9 @@ fn is_admitted(n: usize, rows: Rows, at: Spot) -> bool
 }
 
 // Blends the `count` lowest rows of a glyph, more than sixteen being all of them, into a part of a
-// picture: `rows` rows of `width` pixels from the picture's row `first` on. x and y, the left column
-// and the base line, are counted from an origin 2^26 left of and above the picture. Answers false,
-// and leaves the part, where these are out of range.
+// picture: `rows` rows of `width` pixels from the picture's row `first` on. The slant is in eighths of
+// a cell's width, 0 upright. x and y, the left column and the base line, are counted from an origin
+// 2^26 left of and above the picture. Answers false, and leaves the part, where these are out of range.
 #[no_mangle]
 pub extern "C" fn font_stroke_rows(
     part: &mut [u8],
@@ -74,13 +77,13 @@ pub extern "C" fn font_stroke_rows(
     mode: u32,
     code: u32,
     bold: bool,
-    italic: bool,
+    slant: u32,
     color: u32,
     x: u32,
     y: u32,
     count: u32,
 ) -> bool
-    ensures { λ r. ⌜ StrokedRows count width rows first mode code bold italic color x y (now (part .entry)) (now (part .exit)) r ⌝ }
+    ensures { λ r. ⌜ StrokedRows count width rows first mode code bold slant color x y (now (part .entry)) (now (part .exit)) r ⌝ }
 {
     let lent = Rows {
         width: width as usize,
@@ -91,10 +94,10 @@ pub extern "C" fn font_stroke_rows(
         x: x as usize,
         base: y as usize,
     };
-    if !is_admitted(part.len(), lent, at) {
+    if !is_admitted(part.len(), lent, slant, at) {
         return false;
     }
-    let pen = Pen::new(font::color_bytes(color), bold, italic);
+    let pen = Pen::new(font::color_bytes(color), bold, slant);
     let offsets = pen.row_offsets();
     let glyph = font::glyph_rows(&table(pen.bold), GlyphKey { mode, code });
     let bytes = pen.color;
@@ -112,12 +115,12 @@ pub extern "C" fn font_stroke(
     mode: u32,
     code: u32,
     bold: bool,
-    italic: bool,
+    slant: u32,
     color: u32,
     x: u32,
     y: u32,
 ) -> bool
-    ensures { λ r. ⌜ Stroked width rows first mode code bold italic color x y (now (part .entry)) (now (part .exit)) r ⌝ }
+    ensures { λ r. ⌜ Stroked width rows first mode code bold slant color x y (now (part .entry)) (now (part .exit)) r ⌝ }
 {
     let all = BitmapFont::CELL_H;
     font_stroke_rows(
@@ -128,7 +131,7 @@ pub extern "C" fn font_stroke(
         mode,
         code,
         bold,
-        italic,
+        slant,
         color,
         x,
         y,

@@ -1,7 +1,7 @@
 // Replays a sample of calls of Draw, and of jobs: an Open and the Works after it. Each entry has, high
 // byte first: width and height, two bytes each; the default color and the outline's, red, green, blue,
-// alpha; line height, bottom margin, outline, alignment and glyph mode, four bytes each; then two bytes
-// each: the stripe height; 0 for a Draw, or 1 more than the job has Works; how many bytes the picture's
+// alpha; line height, bottom margin, outline, alignment and glyph mode, four bytes each; the side margin
+// in two bytes, slant and outline cap in one each; then two bytes each: the stripe height; 0 for a Draw, or 1 more than the job has Works; how many bytes the picture's
 // buffer has; and how many bytes follow. Those are the Works, each its stripe in one byte and its budget
 // in four, and then the tape. Writes a line for each call: how many strokes the caption has, or a Work
 // did, and a digest of the whole buffer, which held 5A throughout before the first; or the refusal. A
@@ -19,7 +19,7 @@ use libc::STDIN_FILENO;
 use tape::Answer;
 
 // The bytes of an entry before its Works.
-const HEADER: usize = 40;
+const HEADER: usize = 44;
 
 // The bytes of a Work.
 const WORK: usize = 5;
@@ -38,10 +38,11 @@ fn color_at(bytes: &[u8], at: usize) -> [u8; 4]
 }
 
 fn settings(entry: &[u8]) -> Settings
-    requires { ⌜ 40 ≤ length (now entry) ⌝ }
+    requires { ⌜ 44 ≤ length (now entry) ⌝ }
 {
     let own = color_at(entry, 4);
     let around = color_at(entry, 8);
+    let slant_and_cap = report::number_at(entry, 34);
     Settings {
         width: report::number_at(entry, 0) as u32,
         height: report::number_at(entry, 2) as u32,
@@ -52,6 +53,9 @@ fn settings(entry: &[u8]) -> Settings
         outline_px: long_at(entry, 20),
         align: long_at(entry, 24),
         glyph_mode: long_at(entry, 28),
+        side_margin_px: report::number_at(entry, 32) as u32,
+        slant: (slant_and_cap / 256) as u32,
+        outline_cap_px: (slant_and_cap % 256) as u32,
     }
 }
 
@@ -125,10 +129,10 @@ fn open(
 
 // Where the tape of an entry is due: behind its header and its Works.
 fn tape_start(entry: &[u8]) -> usize
-    requires { ⌜ 40 ≤ length (now entry) ⌝ }
-    ensures { λ r. ⌜ 40 ≤ r ⌝ }
+    requires { ⌜ 44 ≤ length (now entry) ⌝ }
+    ensures { λ r. ⌜ 44 ≤ r ⌝ }
 {
-    let calls = report::number_at(entry, 34);
+    let calls = report::number_at(entry, 38);
     if calls == 0 {
         return HEADER;
     }
@@ -137,14 +141,14 @@ fn tape_start(entry: &[u8]) -> usize
 
 // Makes the calls of one entry, whose tape begins at a place. False where the output takes no more.
 fn print_calls(entry: &[u8], start: usize, workspace: &mut [u8], picture: &mut [u8]) -> bool
-    requires { ⌜ (40 ≤ start) × (start ≤ length (now entry)) × (65535 ≤ length (now picture)) ⌝ }
+    requires { ⌜ (44 ≤ start) × (start ≤ length (now entry)) × (65535 ≤ length (now picture)) ⌝ }
 {
     let s = settings(entry);
-    let stripe_height = report::number_at(entry, 32) as u32;
-    let size = report::number_at(entry, 36);
+    let stripe_height = report::number_at(entry, 36) as u32;
+    let size = report::number_at(entry, 40);
     fill(picture, size);
     let tape = &entry[start..entry.len()];
-    if report::number_at(entry, 34) == 0 {
+    if report::number_at(entry, 38) == 0 {
         return draw(s, tape, workspace, &mut picture[0..size]);
     }
     open(

@@ -99,7 +99,7 @@ module _ (ls : List Letter) (limit lines : ℕ) (c : Cursor) (ws : List ℕ) (en
         lines = record { numbers = numbers; table = table; inked = inked };
         count = left ds there (held .table) ∙ ap length (end .lines);
         onLines = letters;
-        withInk = total;
+        inkedOnLines = total;
       }
 
 -- ---- at the front

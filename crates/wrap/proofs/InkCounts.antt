@@ -28,6 +28,12 @@ inked-column c e = by (ltb 0x20 c) (leb 0x7f c) (leb c 0xa0) refl refl refl e
     by true true false p q r t = let h = leb-false c 0xa0 r in simp (lt-leb c 0x1f (omega arith), lt-leb c 0x9f (omega arith), q)
     by true false d p q r t = let h = ltb-true 0x20 c p in simp (lt-leb c 0x1f (omega arith), q)
 
+-- of letters no more have ink than there are
+pub inked-few : (ls : List Letter) → inkedLetters ls ≤ length ls
+unfolding inkedLetters
+inked-few [] = omega arith
+inked-few (l ∷ ls) = let rest = inked-few ls in let one = one-ink (l .code) in omega arith
+
 pub inked-append : (a b : List Letter) → inkedLetters (a ++ b) ≡ inkedLetters a + inkedLetters b
 unfolding inkedLetters
 inked-append [] b = omega arith

@@ -76,7 +76,7 @@ pub record Laid (ls : List Letter) (limit : ℕ) (made : Lines) (ws : List ℕ) 
   pub lines : HoldsLines ls (wrapRuns ls limit) ws
   pub count : made .lines ≡ length (wrapRuns ls limit)
   pub onLines : made .letters ≡ length (flatten (wrapRuns ls limit))
-  pub withInk : made .inked ≡ inkedIn ls (flatten (wrapRuns ls limit))
+  pub inkedOnLines : made .inked ≡ inkedIn ls (flatten (wrapRuns ls limit))
 
 -- the lines were brought to the workspace's front, so many
 pub record Brought (ls : List Letter) (limit lines : ℕ) (ws : List ℕ) : Type 0 where

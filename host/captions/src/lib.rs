@@ -28,7 +28,10 @@ pub use job::Job;
 pub use lines::{COLUMNS_MAX, Line, wrap};
 pub use record::{RECORD_BYTES, Record, STRIPES_MAX};
 pub use refusal::{Cause, Refusal, Result};
-pub use settings::{Align, GlyphMode, LINE_HEIGHT_MAX, SIDE_MAX, Settings};
+pub use settings::{
+    Align, GlyphMode, LINE_HEIGHT_MAX, OUTLINE_CAP_MAX, SIDE_MARGIN_MAX, SIDE_MAX, SLANT_MAX,
+    Settings,
+};
 pub use workspace::{WORKSPACE_BYTES, Workspace};
 
 /// The most bytes of a tape.
@@ -38,9 +41,9 @@ pub const LETTERS_MAX: usize = 4_096;
 
 /// Draws a tape's cue on a cleared picture, and answers how many strokes it took.
 ///
-/// A letter on a line that has ink is one stroke, and eight more for each pixel of outline up to 2.
-/// One without ink has none: a space, a control, the no-break space and the soft hyphen. Whether a
-/// stroke can be seen makes no difference.
+/// A letter on a line that has ink is one stroke, and eight more for each pixel of outline up to its
+/// cap. One without ink has none: a space, a control, the no-break space and the soft hyphen. Whether
+/// a stroke can be seen makes no difference.
 ///
 /// `picture` begins with the picture: its rows from the top, each its pixels from the left, four
 /// bytes a pixel, red, green, blue and alpha. The bytes after it stay.

@@ -17,6 +17,9 @@ pub struct Settings {
     pub outline: u32,
     pub alignment: u32,
     pub glyph_mode: u32,
+    pub side_margin: u32,
+    pub slant: u32,
+    pub outline_cap: u32,
 }
 
 /// The bytes that a call is lent.

@@ -6,6 +6,12 @@ use crate::raw;
 pub const SIDE_MAX: u32 = 4_096;
 /// The most pixels from one line to the next.
 pub const LINE_HEIGHT_MAX: u32 = 1_024;
+/// The most pixels between a line and the side that it is aligned to.
+pub const SIDE_MARGIN_MAX: u32 = 255;
+/// The most that italic leans over a cell's height, in eighths of a cell's width.
+pub const SLANT_MAX: u32 = 8;
+/// The most pixels that an outline can have.
+pub const OUTLINE_CAP_MAX: u32 = 4;
 
 /// Where the lines of a cue stand between the picture's sides.
 #[derive(Clone, Copy, Debug, Default, PartialEq, Eq)]
@@ -45,14 +51,23 @@ pub struct Settings {
     pub line_height_px: u32,
     /// From the picture's lowest row up; any number.
     pub bottom_margin_px: u32,
-    /// Any number; over 2 it counts as 2.
+    /// Any number; over the cap it counts as the cap.
     pub outline_px: u32,
     pub align: Align,
     pub glyph_mode: GlyphMode,
+    /// How far a line stays from the side that it is aligned to: at most [`SIDE_MARGIN_MAX`]. The
+    /// line may go beyond the other side, since a margin takes no column from it; one at the center
+    /// has none.
+    pub side_margin_px: u32,
+    /// How far italic leans over a cell's height, in eighths of a cell's width: at most
+    /// [`SLANT_MAX`]; at 0 it stands upright.
+    pub slant: u32,
+    /// The most that the outline counts as: at most [`OUTLINE_CAP_MAX`]; at 0 there is none.
+    pub outline_cap_px: u32,
 }
 
 impl Settings {
-    /// The original's own defaults, for a picture of this size.
+    /// The original's own defaults, and its fixed numbers, for a picture of this size.
     pub fn new(width: u32, height: u32) -> Settings {
         Settings {
             width,
@@ -64,6 +79,9 @@ impl Settings {
             outline_px: 1,
             align: Align::Center,
             glyph_mode: GlyphMode::Kept,
+            side_margin_px: 8,
+            slant: 2,
+            outline_cap_px: 2,
         }
     }
 
@@ -92,6 +110,9 @@ impl Settings {
             outline: self.outline_px,
             alignment: self.align as u32,
             glyph_mode: self.glyph_mode as u32,
+            side_margin: self.side_margin_px,
+            slant: self.slant,
+            outline_cap: self.outline_cap_px,
         }
     }
 }

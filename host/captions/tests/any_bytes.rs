@@ -15,7 +15,8 @@ fn settings(random: &mut Random) -> Settings {
         false => random.under(usual),
     };
     let (width, height) = (number(80), number(60));
-    let [line_height_px, bottom_margin_px, outline_px] = [number(40), number(40), number(4)];
+    let [line_height_px, bottom_margin_px, outline_px] = [number(40), number(40), number(6)];
+    let [side_margin_px, slant, outline_cap_px] = [number(40), number(9), number(5)];
     let aligns = [
         Align::Center,
         Align::Left,
@@ -33,6 +34,9 @@ fn settings(random: &mut Random) -> Settings {
         outline_px,
         align: aligns[random.under(5) as usize],
         glyph_mode: [GlyphMode::Kept, GlyphMode::Replaced][random.under(2) as usize],
+        side_margin_px,
+        slant,
+        outline_cap_px,
     }
 }
 

@@ -4,8 +4,8 @@
 
 use captions::raw::{Record, Settings};
 use captions::{
-    Align, COLUMNS_MAX, Cause, GlyphMode, LETTERS_MAX, LINE_HEIGHT_MAX, RECORD_BYTES, SIDE_MAX,
-    STRIPES_MAX, TAPE_MAX, WORKSPACE_BYTES,
+    Align, COLUMNS_MAX, Cause, GlyphMode, LETTERS_MAX, LINE_HEIGHT_MAX, OUTLINE_CAP_MAX,
+    RECORD_BYTES, SIDE_MARGIN_MAX, SIDE_MAX, SLANT_MAX, STRIPES_MAX, TAPE_MAX, WORKSPACE_BYTES,
 };
 use std::mem::{offset_of, size_of};
 use std::path::{Path, PathBuf};
@@ -75,7 +75,7 @@ fn written(program: &Path) -> String {
     written.into_owned()
 }
 
-const CALLER: &str = "310 checks passed\n";
+const CALLER: &str = "581 checks passed\n";
 
 #[test]
 fn a_caller_in_c() {
@@ -117,7 +117,7 @@ fn in_c(parameter: &str) -> Vec<String> {
         "u32" => vec![format!("uint32_t {name}")],
         "&[u8]" => slice("const uint8_t"),
         "&mut [u8]" => slice("uint8_t"),
-        "&[u32; 9]" => vec![format!("const captions_settings *{name}")],
+        "&[u32; 12]" => vec![format!("const captions_settings *{name}")],
         "&mut [u32; 65]" => vec![format!("captions_record *{name}")],
         _ => panic!("no type of C for `{of}`"),
     }
@@ -179,13 +179,16 @@ fn settings_have_the_fields_of_the_wrapper_s() {
         ("uint32_t outline;", offset_of!(Settings, outline)),
         ("uint32_t alignment;", offset_of!(Settings, alignment)),
         ("uint32_t glyph_mode;", offset_of!(Settings, glyph_mode)),
+        ("uint32_t side_margin;", offset_of!(Settings, side_margin)),
+        ("uint32_t slant;", offset_of!(Settings, slant)),
+        ("uint32_t outline_cap;", offset_of!(Settings, outline_cap)),
     ];
     let header = read(HEADER);
     let declared = declared(&header, "typedef struct {", "} captions_settings;");
     assert_eq!(declared, fields.map(|(field, _)| field));
-    let offsets = [0, 4, 8, 12, 16, 20, 24, 28, 32];
+    let offsets = [0, 4, 8, 12, 16, 20, 24, 28, 32, 36, 40, 44];
     assert_eq!(fields.map(|(_, offset)| offset), offsets);
-    assert_eq!(size_of::<Settings>(), 36);
+    assert_eq!(size_of::<Settings>(), 48);
 }
 
 #[test]
@@ -220,12 +223,18 @@ fn usual_settings_are_the_wrapper_s() {
         format!("usual.outline = {};", usual.outline_px),
         "usual.alignment = CAPTIONS_ALIGN_CENTER;".to_string(),
         "usual.glyph_mode = CAPTIONS_GLYPHS_KEPT;".to_string(),
+        format!("usual.side_margin = {};", usual.side_margin_px),
+        format!("usual.slant = {};", usual.slant),
+        format!("usual.outline_cap = {};", usual.outline_cap_px),
     ];
     let declared = declared(&header, "uint32_t height)\n{", "return usual;");
     assert_eq!(declared, due);
     assert_eq!([usual.width, usual.height], [7, 9]);
     assert_eq!(usual.align, Align::Center);
     assert_eq!(usual.glyph_mode, GlyphMode::Kept);
+    // Document 02, S-10: what they were while they were fixed.
+    let fixed = [usual.side_margin_px, usual.slant, usual.outline_cap_px];
+    assert_eq!(fixed, [8, 2, 2]);
 }
 
 /// A name as C has it: `NotAScalar` is `NOT_A_SCALAR`, and `Letter1` is `LETTER_1`.
@@ -270,11 +279,14 @@ fn the_header_has_the_names_of_the_wrapper() {
 fn the_header_has_the_numbers_of_the_wrapper() {
     let header = read(HEADER);
     let numbers = [
-        ("#define CAPTIONS_VERSION", 3),
+        ("#define CAPTIONS_VERSION", 4),
         ("#define CAPTIONS_TAPE_MAX", TAPE_MAX as u32),
         ("#define CAPTIONS_WORKSPACE_MIN", WORKSPACE_BYTES as u32),
         ("#define CAPTIONS_SIDE_MAX", SIDE_MAX),
         ("#define CAPTIONS_LINE_HEIGHT_MAX", LINE_HEIGHT_MAX),
+        ("#define CAPTIONS_SIDE_MARGIN_MAX", SIDE_MARGIN_MAX),
+        ("#define CAPTIONS_SLANT_MAX", SLANT_MAX),
+        ("#define CAPTIONS_OUTLINE_CAP_MAX", OUTLINE_CAP_MAX),
         ("#define CAPTIONS_COLUMNS_MAX", COLUMNS_MAX),
         ("#define CAPTIONS_LETTERS_MAX", LETTERS_MAX as u32),
         ("#define CAPTIONS_STRIPES_MAX", STRIPES_MAX),

@@ -35,6 +35,15 @@ static const uint8_t GREETING[] = {
     CAPTIONS_BREAK, CAPTIONS_LETTER_1, 'y', CAPTIONS_LETTER_1, 'o', CAPTIONS_LETTER_1, 'u'};
 enum { GREETING_LETTERS = 5 };
 
+/* The box of a letter without a glyph: in its cell of 8 by 16, columns 1 to 6 and rows 2 to 13. */
+static const uint8_t BOX[] = {CAPTIONS_LETTER_2, 0x01, 0x00};
+
+/* In italic a comma and the box, which have ink below their base line, and g; a break; and "yo". */
+static const uint8_t LEANING[] = {
+    CAPTIONS_ITALIC, CAPTIONS_LETTER_1, ',', CAPTIONS_LETTER_2, 0x01, 0x00, CAPTIONS_LETTER_1, 'g',
+    CAPTIONS_END, CAPTIONS_BREAK, CAPTIONS_LETTER_1, 'y', CAPTIONS_LETTER_1, 'o'};
+enum { LEANING_LETTERS = 5 };
+
 static uint8_t workspace[CAPTIONS_WORKSPACE_MIN];
 static uint8_t picture[PICTURE_BYTES + AFTER];
 static captions_record record;
@@ -90,6 +99,20 @@ static struct call good_call(void)
     return c;
 }
 
+/* The leaning letters with the steepest slant and the widest outline. */
+static struct call house_call(void)
+{
+    struct call c = good_call();
+    c.settings.outline = UINT32_MAX;
+    c.settings.alignment = CAPTIONS_ALIGN_END;
+    c.settings.side_margin = 40;
+    c.settings.slant = CAPTIONS_SLANT_MAX;
+    c.settings.outline_cap = CAPTIONS_OUTLINE_CAP_MAX;
+    c.tape = LEANING;
+    c.tape_len = sizeof LEANING;
+    return c;
+}
+
 /* Whether so many bytes are all this one. */
 static int is_all(const void *bytes, size_t count, int byte)
 {
@@ -114,14 +137,23 @@ static int pixels_of(uint32_t color)
     return count;
 }
 
-/* The leftmost column with a pixel that is not clear, or WIDTH. */
+/* The leftmost column of a row with a pixel that is not clear, or WIDTH. */
+static size_t first_lit_of_row(size_t row)
+{
+    size_t column = 0;
+    while (column < WIDTH && picture[4 * (WIDTH * row + column) + 3] == 0) {
+        column++;
+    }
+    return column;
+}
+
+/* The leftmost column of all rows. */
 static size_t first_lit_column(void)
 {
     size_t first = WIDTH;
-    for (size_t pixel = 0; pixel < PICTURE_BYTES / 4; pixel++) {
-        if (picture[4 * pixel + 3] != 0 && pixel % WIDTH < first) {
-            first = pixel % WIDTH;
-        }
+    for (size_t row = 0; row < HEIGHT; row++) {
+        size_t column = first_lit_of_row(row);
+        first = column < first ? column : first;
     }
     return first;
 }
@@ -171,6 +203,9 @@ static void check_usual_settings(void)
     check(usual.outline == 1, "usual settings: an outline of a pixel");
     check(usual.alignment == CAPTIONS_ALIGN_CENTER, "usual settings: lines at the center");
     check(usual.glyph_mode == CAPTIONS_GLYPHS_KEPT, "usual settings: no letter replaced");
+    check(usual.side_margin == 8, "usual settings: the side margin");
+    check(usual.slant == 2, "usual settings: the slant");
+    check(usual.outline_cap == 2, "usual settings: the outline's cap");
 }
 
 static void check_draw(void)
@@ -189,7 +224,7 @@ static void check_draw(void)
     check(draw(&c) == GREETING_LETTERS, "Draw: without an outline, a stroke a letter");
     check(pixels_of(c.settings.outline_color) == 0, "Draw: outline 0 draws none");
     c.settings.outline = UINT32_MAX;
-    check(draw(&c) == GREETING_LETTERS * 17, "Draw: an outline over 2 counts as 2");
+    check(draw(&c) == GREETING_LETTERS * 17, "Draw: an outline over its cap counts as the cap");
     c.settings.bottom_margin = UINT32_MAX;
     check(draw(&c) == GREETING_LETTERS * 17, "Draw: any bottom margin is accepted");
 }
@@ -248,10 +283,9 @@ static int finish(const struct call *c, uint32_t stripe)
 }
 
 /* A job, all its stripes done a few strokes at a time, leaves what Draw leaves. */
-static void check_job(void)
+static void check_job(struct call c)
 {
     static uint8_t drawn[sizeof picture];
-    struct call c = good_call();
     memset(picture, PAINT, sizeof picture);
     uint64_t total = draw(&c);
     memcpy(drawn, picture, sizeof picture);
@@ -273,18 +307,25 @@ static void check_job(void)
     check(memcmp(picture, drawn, sizeof picture) == 0, "Work: the picture is what Draw leaves");
 }
 
-/* Whether Draw makes one picture of two tapes with this call's settings. */
+/* Whether Draw makes one picture of two calls, with as many strokes. */
+static int draws_as(const struct call *one, const struct call *other)
+{
+    static uint8_t drawn[sizeof picture];
+    uint64_t strokes = draw(one);
+    memcpy(drawn, picture, sizeof picture);
+    return draw(other) == strokes && memcmp(picture, drawn, sizeof picture) == 0;
+}
+
+/* Whether it does of two tapes with this call's settings. */
 static int draws_alike(struct call c, const uint8_t *one, size_t one_len, const uint8_t *other,
                        size_t other_len)
 {
-    static uint8_t drawn[sizeof picture];
+    struct call d = c;
     c.tape = one;
     c.tape_len = one_len;
-    uint64_t strokes = draw(&c);
-    memcpy(drawn, picture, sizeof picture);
-    c.tape = other;
-    c.tape_len = other_len;
-    return draw(&c) == strokes && memcmp(picture, drawn, sizeof picture) == 0;
+    d.tape = other;
+    d.tape_len = other_len;
+    return draws_as(&c, &d);
 }
 
 /* Where the default color is not white, Draw may make other lines than Wrap. */
@@ -311,6 +352,93 @@ static void check_lines_of_colors(void)
           "Draw: X A and B, of two colors");
     check(!draws_alike(c, tape, sizeof tape, broken_before_a, sizeof broken_before_a),
           "Draw: X A and B are not X and AB");
+}
+
+/* The leftmost column of the box with an alignment and a side margin. */
+static size_t box_from(uint32_t alignment, uint32_t side_margin)
+{
+    struct call c = good_call();
+    c.tape = BOX;
+    c.tape_len = sizeof BOX;
+    c.settings.outline = 0;
+    c.settings.alignment = alignment;
+    c.settings.side_margin = side_margin;
+    check(draw(&c) == 1, "Draw: the side margin is accepted, and the stroke counted");
+    return first_lit_column();
+}
+
+/* A line at a side stays the margin from it, even where that takes it beyond the other side. */
+static void check_side_margins(void)
+{
+    static const struct {
+        uint32_t margin;
+        size_t left, right;
+    } due[] = {
+        {0, 1, WIDTH - 8 + 1}, {8, 9, WIDTH - 16 + 1}, {88, 89, 1}, {89, 90, 0},
+        {CAPTIONS_SIDE_MARGIN_MAX, WIDTH, WIDTH}};
+    for (size_t i = 0; i < sizeof due / sizeof due[0]; i++) {
+        uint32_t margin = due[i].margin;
+        check(box_from(CAPTIONS_ALIGN_LEFT, margin) == due[i].left, "side margin: left");
+        check(box_from(CAPTIONS_ALIGN_START, margin) == due[i].left, "side margin: start");
+        check(box_from(CAPTIONS_ALIGN_RIGHT, margin) == due[i].right, "side margin: right");
+        check(box_from(CAPTIONS_ALIGN_END, margin) == due[i].right, "side margin: end");
+        check(box_from(CAPTIONS_ALIGN_CENTER, margin) == (WIDTH - 8) / 2 + 1,
+              "side margin: the center stays");
+    }
+}
+
+/* The box in italic at the left: how far its rows are moved, from row 2 on. */
+static void check_slants(void)
+{
+    static const uint8_t italic[] = {CAPTIONS_ITALIC, CAPTIONS_LETTER_2, 0x01, 0x00, CAPTIONS_END};
+    static const int rows_of_8[] = {5, 5, 4, 4, 3, 3, 2, 2, 1, 1, 0, -1};
+    static const int rows_of_1[] = {1, 1, 1, 0, 0, 0, 0, 0, 0, 0, 0, 0};
+    struct call c = good_call();
+    c.tape = italic;
+    c.tape_len = sizeof italic;
+    c.settings.outline = 0;
+    c.settings.alignment = CAPTIONS_ALIGN_LEFT;
+    size_t top = HEIGHT - c.settings.bottom_margin - 16;
+    for (uint32_t slant = 1; slant <= CAPTIONS_SLANT_MAX; slant += CAPTIONS_SLANT_MAX - 1) {
+        const int *due = slant == 1 ? rows_of_1 : rows_of_8;
+        c.settings.slant = slant;
+        check(draw(&c) == 1, "Draw: the slant is accepted");
+        for (int row = 2; row <= 13; row++) {
+            size_t first = first_lit_of_row(top + (size_t)row);
+            check((int)first == 8 + 1 + due[row - 2], "slant: a row of the box");
+        }
+    }
+    check(!draws_alike(c, italic, sizeof italic, BOX, sizeof BOX), "slant 8: is not upright");
+    c.settings.slant = 0;
+    check(draws_alike(c, italic, sizeof italic, BOX, sizeof BOX), "slant 0: is upright");
+}
+
+/* How many strokes an outline has is for its cap to say, in Draw and in Open. */
+static void check_outline_caps(void)
+{
+    static const uint32_t outlines[] = {0, 1, 2, 3, 4, 5, UINT32_MAX};
+    struct call c = good_call();
+    for (size_t i = 0; i < sizeof outlines / sizeof outlines[0]; i++) {
+        for (uint32_t cap = 0; cap <= CAPTIONS_OUTLINE_CAP_MAX; cap++) {
+            uint32_t drawn = outlines[i] < cap ? outlines[i] : cap;
+            c.settings.outline = outlines[i];
+            c.settings.outline_cap = cap;
+            check(draw(&c) == GREETING_LETTERS * (1 + 8 * drawn), "Draw: strokes by the cap");
+            check(open_job(&c, STRIPE_HEIGHT) == GREETING_LETTERS * (1 + 8 * drawn),
+                  "Open: strokes by the cap");
+        }
+    }
+    struct call other = c;
+    c.settings.outline = 9;
+    c.settings.outline_cap = 3;
+    other.settings.outline = 3;
+    other.settings.outline_cap = 4;
+    check(draws_as(&c, &other), "outline 9, cap 3: is outline 3, cap 4");
+    other.settings.outline = 4;
+    check(!draws_as(&c, &other), "outline 9, cap 3: is not outline 4");
+    c.settings.outline_cap = 0;
+    other.settings.outline = 0;
+    check(draws_as(&c, &other), "cap 0: is outline 0");
 }
 
 /* A job goes on in another process from its record and its picture. */
@@ -497,6 +625,22 @@ static void check_tape_refusals(void)
           "Wrap: a tape as long as it may be");
 }
 
+/* A job's counters go up to T, which the cap is part of. */
+static void check_counters_of_caps(void)
+{
+    struct call c = house_call();
+    check(draw(&c) == LEANING_LETTERS * 33, "Draw: 33 strokes for each letter with ink");
+    new_record(STRIPE_HEIGHT);
+    record.counters[1] = LEANING_LETTERS * 33;
+    check(work(&c, 1, BUDGET) == 0, "Work: these are all");
+    record.counters[1] = LEANING_LETTERS * 33 + 1;
+    check_work_refused(&c, 1, CAPTIONS_COUNTERS_UNSOUND, 0);
+    record.counters[1] = LEANING_LETTERS * 25 + 1;
+    check(work(&c, 1, BUDGET) == BUDGET, "Work: goes on with the cap of 4");
+    c.settings.outline_cap = 3;
+    check_work_refused(&c, 1, CAPTIONS_COUNTERS_UNSOUND, 0);
+}
+
 /* A setting is accepted up to its limit, and refused above it. */
 static void check_limit(struct call *c, uint32_t *setting, uint32_t limit)
 {
@@ -508,9 +652,28 @@ static void check_limit(struct call *c, uint32_t *setting, uint32_t limit)
     *setting = before;
 }
 
+/* And so it is from 0 on, by Open and Work too, and the largest number is refused. */
+static void check_range(struct call *c, uint32_t *setting, uint32_t limit)
+{
+    uint32_t before = *setting;
+    check_limit(c, setting, limit);
+    for (uint32_t end = 0; end <= limit; end += limit) {
+        *setting = end;
+        check(captions_refused(draw(c)) == 0, "Draw: both ends of a range are accepted");
+        check(captions_refused(open_job(c, STRIPE_HEIGHT)) == 0, "Open: both ends of a range");
+        check(captions_refused(work(c, 0, BUDGET)) == 0, "Work: both ends of a range");
+    }
+    *setting = UINT32_MAX;
+    check_refused(c, CAPTIONS_OUT_OF_RANGE, 0);
+    *setting = before;
+}
+
 static void check_setting_refusals(void)
 {
     struct call c = good_call();
+    check_range(&c, &c.settings.side_margin, CAPTIONS_SIDE_MARGIN_MAX);
+    check_range(&c, &c.settings.slant, CAPTIONS_SLANT_MAX);
+    check_range(&c, &c.settings.outline_cap, CAPTIONS_OUTLINE_CAP_MAX);
     check_limit(&c, &c.settings.line_height, CAPTIONS_LINE_HEIGHT_MAX);
     check_limit(&c, &c.settings.alignment, CAPTIONS_ALIGN_END);
     check_limit(&c, &c.settings.glyph_mode, CAPTIONS_GLYPHS_REPLACED);
@@ -576,8 +739,13 @@ int main(void)
     check_alignments();
     check_glyph_modes();
     check_lines_of_colors();
+    check_side_margins();
+    check_slants();
+    check_outline_caps();
     check_letters_without_ink();
-    check_job();
+    check_job(good_call());
+    check_job(house_call());
+    check_counters_of_caps();
     check_stored();
     check_empty();
     check_tape_refusals();

@@ -345,11 +345,12 @@ fn a_refused_open_leaves_the_picture() {
 #[test]
 fn the_most_strokes_are_counted() {
     let settings = Settings {
-        outline_px: 2,
+        outline_px: captions::OUTLINE_CAP_MAX,
+        outline_cap_px: captions::OUTLINE_CAP_MAX,
         ..plain(8, 2)
     };
     let tape = tape(&"x".repeat(captions::LETTERS_MAX));
-    let total = 4096 * 17;
+    let total = 4096 * 33;
     let workspace = &mut Workspace::new();
     let mut picture = settings.new_picture();
     assert_eq!(draw(&settings, &tape, workspace, &mut picture), Ok(total));

@@ -111,6 +111,81 @@ fn number_8_a_setting() {
     assert_eq!(job(&highest, &[], &mut [0; 8 * 8 * 4], 8), Ok(0));
 }
 
+/// Settings with one of the three house settings so, and how large each may be.
+type House = (fn(u32) -> raw::Settings, u32);
+
+const HOUSE: [House; 3] = [
+    (
+        |side_margin| raw::Settings {
+            side_margin,
+            ..PLAIN
+        },
+        255,
+    ),
+    (|slant| raw::Settings { slant, ..PLAIN }, 8),
+    (
+        |outline_cap| raw::Settings {
+            outline_cap,
+            ..PLAIN
+        },
+        4,
+    ),
+];
+
+#[test]
+fn number_8_a_house_setting() {
+    for (with, most) in HOUSE {
+        for end in [0, 1, most - 1, most] {
+            assert_eq!(raw_draw(with(end), &[2, b'A'], 65_536), 1);
+            assert_eq!(raw_open(with(end), &[2, b'A'], 5), (1, Record::new(5)));
+            let work = raw_work_with(with(end), &mut Record::new(8), 65_536, 1);
+            assert_eq!(work, 1);
+        }
+        for over in [most + 1, most + 2, 256, 1 << 16, 1 << 31, u32::MAX] {
+            // It comes before all else that is wrong.
+            assert_eq!(raw_draw(with(over), &[12], 0), 8 << 32);
+            let zeros = Record::new(0);
+            assert_eq!(raw_open(with(over), &[12], 0), (8 << 32, zeros));
+            let work = raw_work_with(with(over), &mut { ANY }, 0, u32::MAX);
+            assert_eq!(work, 8 << 32);
+        }
+    }
+}
+
+/// The wrapper's constants are the ends of the ranges.
+#[test]
+fn number_8_a_house_setting_by_the_wrapper() {
+    let due = Refusal {
+        cause: Cause::OutOfRange,
+        place: 0,
+    };
+    let good = plain(8, 8);
+    let with = |side_margin_px, slant, outline_cap_px| Settings {
+        side_margin_px,
+        slant,
+        outline_cap_px,
+        ..good
+    };
+    let [margin, slant, cap] = [
+        captions::SIDE_MARGIN_MAX,
+        captions::SLANT_MAX,
+        captions::OUTLINE_CAP_MAX,
+    ];
+    for over in [
+        with(margin + 1, slant, cap),
+        with(margin, slant + 1, cap),
+        with(margin, slant, cap + 1),
+    ] {
+        assert_eq!(refusals(&over, &[12], 0), [due; 2]);
+        let (workspace, picture) = (&mut Workspace::new(), &mut [0; 8 * 8 * 4]);
+        let resumed = Job::resume(&over, &[], workspace, picture, &Record::new(8));
+        assert_eq!(resumed.map(|job| job.total()), Err(due));
+    }
+    for ends in [with(margin, slant, cap), with(0, 0, 0)] {
+        assert_eq!(job(&ends, &[], &mut [0; 8 * 8 * 4], 8), Ok(0));
+    }
+}
+
 #[test]
 fn number_8_a_column_limit_an_alignment_or_a_glyph_mode() {
     let due = Refusal {
@@ -182,6 +257,9 @@ const PLAIN: raw::Settings = raw::Settings {
     outline: 0,
     alignment: 1,
     glyph_mode: 0,
+    side_margin: 8,
+    slant: 2,
+    outline_cap: 2,
 };
 
 fn raw_draw(settings: raw::Settings, tape: &[u8], room: usize) -> u64 {
@@ -200,8 +278,27 @@ fn raw_draw(settings: raw::Settings, tape: &[u8], room: usize) -> u64 {
     answer
 }
 
-/// The answer of Work on a record, which a refusal must leave, with the picture.
+/// The answer of Open, which must leave the picture where it is refused, and its record.
+fn raw_open(settings: raw::Settings, tape: &[u8], stripe_height: u32) -> (u64, Record) {
+    let mut record = ANY;
+    let mut picture = vec![PAINT; 8 * 16 * 4];
+    let buffers = Buffers {
+        tape,
+        workspace: &mut vec![PAINT; 65_536],
+        picture: &mut picture,
+    };
+    let answer = raw::open(&settings, buffers, stripe_height, &mut record);
+    let refused = answer >> 32 != 0;
+    assert!(!refused || picture.iter().all(|&byte| byte == PAINT));
+    (answer, record)
+}
+
 fn raw_work(record: &mut Record, room: usize, stripe: u32) -> u64 {
+    raw_work_with(PLAIN, record, room, stripe)
+}
+
+/// The answer of Work on a record, which a refusal must leave, with the picture.
+fn raw_work_with(settings: raw::Settings, record: &mut Record, room: usize, stripe: u32) -> u64 {
     let before = *record;
     let mut workspace = vec![PAINT; room];
     let mut picture = vec![PAINT; 8 * 16 * 4];
@@ -210,7 +307,7 @@ fn raw_work(record: &mut Record, room: usize, stripe: u32) -> u64 {
         workspace: &mut workspace,
         picture: &mut picture,
     };
-    let answer = raw::work(&PLAIN, buffers, record, stripe, 1);
+    let answer = raw::work(&settings, buffers, record, stripe, 1);
     if answer >> 32 != 0 {
         assert_eq!(*record, before);
         assert!(picture.iter().all(|&byte| byte == PAINT));
@@ -239,19 +336,9 @@ fn number_11_a_short_workspace() {
 
 #[test]
 fn a_refused_raw_open_gives_zeros() {
-    let mut record = ANY;
-    let mut open = |tape: &[u8], stripe_height| {
-        let buffers = Buffers {
-            tape,
-            workspace: &mut vec![PAINT; 65_536],
-            picture: &mut [PAINT; 8 * 16 * 4],
-        };
-        let answer = raw::open(&PLAIN, buffers, stripe_height, &mut record);
-        (answer, record)
-    };
+    let open = |tape: &[u8], stripe_height| raw_open(PLAIN, tape, stripe_height);
     assert_eq!(open(&[2, b'A'], 5), (1, Record::new(5)));
     assert_eq!(open(&[2, b'A'], 0), (13 << 32, Record::new(0)));
-    open(&[2, b'A'], 5);
     assert_eq!(open(&[2, b'A', 6], 5), (3 << 32 | 3, Record::new(0)));
 }
 

@@ -117,9 +117,10 @@ fn a_resumed_job_knows_its_strokes() {
     let texts = ["", "x", " ", "a b\n\nc", "a long line that is cut and cut"];
     for text in texts {
         for (width, height) in [(0, 9), (1, 64), (30, 5), (200, 70), (30, 0), (0, 0)] {
-            for outline_px in [0, 1, 2, u32::MAX] {
+            for (outline_px, outline_cap_px) in [(0, 2), (1, 2), (2, 2), (u32::MAX, 2), (9, 4)] {
                 let settings = Settings {
                     outline_px,
+                    outline_cap_px,
                     ..plain(width, height)
                 };
                 let tape = tape(text);
@@ -211,6 +212,30 @@ fn numbers_13_and_14_a_damaged_record() {
     let say = |stripe_height| refused(&high, &tape, 65 * 4, &Record::new(stripe_height));
     assert_eq!(say(1), because(Cause::StripesUnfit));
     assert_eq!(say(2), Ok(5));
+}
+
+/// Counters go as far as the outline's cap lets the strokes: a record is one of its cap's jobs.
+#[test]
+fn number_14_a_counter_over_the_cap_s_strokes() {
+    let (settings, tape, _) = cue();
+    for cap in 0..=4 {
+        let with = |outline_cap_px| Settings {
+            outline_px: u32::MAX,
+            outline_cap_px,
+            ..settings
+        };
+        let total = 5 * (1 + 8 * cap);
+        let say = |settings, count| {
+            let record = with_counter(0, count);
+            refused(&settings, &tape, 48 * 41 * 4, &record)
+        };
+        assert_eq!(say(with(cap), total), Ok(total));
+        let unsound = because(Cause::CountersUnsound);
+        assert_eq!(say(with(cap), total + 1), unsound);
+        if cap > 0 {
+            assert_eq!(say(with(cap - 1), total), unsound);
+        }
+    }
 }
 
 /// Counters do not go on to letters without ink: three of these five have some.
@@ -352,6 +377,9 @@ fn refused_by_work(tape: &[u8], mut record: Record) -> u32 {
         outline: 1,
         alignment: 1,
         glyph_mode: 0,
+        side_margin: 8,
+        slant: 2,
+        outline_cap: 2,
     };
     let buffers = Buffers {
         tape,

@@ -154,7 +154,9 @@ static void measure_tape(uint32_t width)
     settings = captions_settings_usual(width, SIDE);
     settings.default_color = 0x11223380;
     settings.outline_color = 0x44556677;
-    settings.outline = 2;
+    settings.outline = CAPTIONS_OUTLINE_CAP_MAX;
+    settings.slant = CAPTIONS_SLANT_MAX;
+    settings.outline_cap = CAPTIONS_OUTLINE_CAP_MAX;
     column_limit = width / 8;
     for (size_t i = 0; i < CALLS; i++) {
         measure(&calls[i]);

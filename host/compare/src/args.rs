@@ -1,7 +1,7 @@
 //! The words of the command line.
 
 pub const USAGE: &str = "\
-usage: compare [--pictures N] [--tapes N] [--cues N] [--frames N] [--jobs N] [--seed S]
+usage: compare [--pictures N] [--tapes N] [--cues N] [--frames N] [--jobs N] [--house-frames N] [--seed S]
                                 compare the proved crates with the original
        compare specimen         write what the original draws for U+0000 to U+0100
        compare sample           write the tapes that the program `letters` reads
@@ -35,6 +35,7 @@ pub struct Extent {
     pub cues: u64,
     pub frames: u64,
     pub jobs: u64,
+    pub house_frames: u64,
     pub seed: u64,
 }
 
@@ -57,6 +58,7 @@ pub fn parse(words: &[String]) -> Option<Command> {
         cues: 200_000,
         frames: 200_000,
         jobs: 50_000,
+        house_frames: 100_000,
         seed: 1,
     };
     let (pairs, rest) = words.as_chunks::<2>();
@@ -67,6 +69,7 @@ pub fn parse(words: &[String]) -> Option<Command> {
             "--cues" => extent.cues = value.parse().ok()?,
             "--frames" => extent.frames = value.parse().ok()?,
             "--jobs" => extent.jobs = value.parse().ok()?,
+            "--house-frames" => extent.house_frames = value.parse().ok()?,
             "--seed" => extent.seed = value.parse().ok()?,
             _ => return None,
         }

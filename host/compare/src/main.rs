@@ -8,6 +8,7 @@ mod draw;
 mod fenced;
 mod font;
 mod hex;
+mod house;
 mod inkless;
 mod proved;
 mod random;
@@ -74,6 +75,7 @@ fn compare(original: &Original, extent: Extent) -> ExitCode {
     counts.extend(wrap::compare(original, seed, extent.cues));
     counts.extend(draw::compare(original, seed, extent.frames));
     counts.extend(work::compare(original, seed, extent.jobs));
+    counts.extend(house::compare(original, seed, extent.house_frames));
     let (mut passed, mut failed) = (0, 0);
     for count in &counts {
         count.show();

@@ -43,5 +43,8 @@ fn raw(settings: &Settings) -> raw::Settings {
         outline: settings.outline,
         alignment: settings.alignment,
         glyph_mode: settings.glyph_mode,
+        side_margin: settings.house.side_margin,
+        slant: settings.house.slant,
+        outline_cap: settings.house.outline_cap,
     }
 }

@@ -52,13 +52,14 @@ const FOR_PLAYERS: [Chapter; 6] = [
 ];
 
 /// What stands behind the examples.
-const BEHIND: [Chapter; 15] = [
+const BEHIND: [Chapter; 16] = [
     ("Positions in signed numbers", "compositor", &["Plain"]),
     ("From segments to tapes", "tape", &["Segments"]),
     ("What lines keep", "wrap", &["Shown"]),
     ("A stroke, row by row", "font", &["Upward"]),
     ("Glyph mode 1 by mode 0", "compositor", &["Replaced"]),
     ("Letters without ink", "compositor", &["Inkless"]),
+    ("House settings", "compositor", &["House"]),
     ("What a call answers and leaves", "tape", &["Call"]),
     ("What a call answers and leaves", "wrap", &["Wrapped"]),
     ("What a call answers and leaves", "compositor", &["Drawn"]),

@@ -130,20 +130,23 @@ fn the_order_of_refusals() {
 }
 
 /// The files that docs/DEFINITIONS.md quotes from, and what it has to quote.
-const SPECS: [&str; 5] = [
+const SPECS: [&str; 6] = [
     "crates/font/specs/Upward.antt",
     "crates/compositor/specs/Replaced.antt",
     "crates/compositor/specs/Inkless.antt",
+    "crates/compositor/specs/House.antt",
     "crates/job/specs/History.antt",
     "crates/captions/specs/HistoryInC.antt",
 ];
-const QUOTED: [&str; 11] = [
+const QUOTED: [&str; 13] = [
     "DrawnUpward",
     "RowsFromTheBottom",
     "DrawnReplaced",
     "ReplacedFirst",
     "InkAlone",
     "InklessLeftOut",
+    "HouseOf",
+    "HouseSettings",
     "PartlyDrawn",
     "Demand3",
     "Possible",

@@ -64,7 +64,7 @@ fn room(example: &[&str]) -> usize {
 
 fn settings(words: &str) -> Settings {
     let words: Vec<&str> = words.split(' ').collect();
-    let words: [&str; 9] = words.try_into().expect("there are nine settings");
+    let words: [&str; 12] = words.try_into().expect("there are twelve settings");
     let color = |word| u32::from_str_radix(word, 16).expect("a color is hexadecimal");
     Settings {
         width: number(words[0]),
@@ -76,6 +76,9 @@ fn settings(words: &str) -> Settings {
         outline: number(words[6]),
         alignment: number(words[7]),
         glyph_mode: number(words[8]),
+        side_margin: number(words[9]),
+        slant: number(words[10]),
+        outline_cap: number(words[11]),
     }
 }
 

@@ -1,6 +1,6 @@
 
-// What follows is appended to the build's copy of the original file, whose text stands above as it
-// is: the way to its private functions.
+// What follows is appended to the build's copies of the original file, whose text stands above, as it
+// is or with its numbers made settings: the way to its private functions.
 
 /// A run's text, bold, italic and color.
 pub type Opened = (String, bool, bool, [u8; 4]);
@@ -33,6 +33,17 @@ pub fn count_lines(
     max_cols: usize,
 ) -> usize {
     flatten_and_wrap(segments, color, max_cols).len()
+}
+
+/// A compositor that is told these settings, but for those that the original has not.
+pub fn told(settings: &crate::settings::Settings) -> Compositor {
+    let mut compositor = Compositor::new(settings.width, settings.height);
+    compositor.default_color = settings.default_color;
+    compositor.outline_color = settings.outline_color;
+    compositor.line_height_px = settings.line_height;
+    compositor.bottom_margin_px = settings.bottom_margin;
+    compositor.outline_px = settings.outline;
+    compositor
 }
 
 /// Counts the strokes that the draw loop comes to, and draws those of a window. Where it comes to a

@@ -1,23 +1,26 @@
 //! What the comparison asks of the original, where it is at hand.
 
-use crate::compositor::{self, Compositor};
 use crate::font::BitmapFont;
-use crate::settings::Settings;
-use crate::{Line, Run, Stroke, replaced};
+use crate::settings::{House, Settings};
+use crate::{Line, Run, Stroke, compositor, house, replaced};
 use oxideav_core::{Segment, SubtitleCue};
 use std::ops::Range;
 
-/// The original: its fonts, and the functions of its compositor. Only [`crate::original`] makes one.
+/// The original: its fonts, and the functions of its compositor. Only [`crate::original`] and
+/// [`crate::changed`] make one.
 pub struct Original {
     regular: &'static BitmapFont,
     bold: &'static BitmapFont,
+    /// Whether the changed text draws even at the original's numbers.
+    changed: bool,
 }
 
 impl Original {
-    pub(crate) fn find() -> Option<Original> {
+    pub(crate) fn find(changed: bool) -> Option<Original> {
         Some(Original {
             regular: BitmapFont::default_regular(),
             bold: BitmapFont::default_bold(),
+            changed,
         })
     }
 
@@ -25,18 +28,14 @@ impl Original {
         if bold { self.bold } else { self.regular }
     }
 
-    /// Draws one glyph into a picture of `w` by `h` pixels, upright or slanted as the original's
-    /// compositor slants it; in glyph mode 1 that of the letter replaced.
+    /// Draws one glyph into a picture of `w` by `h` pixels, upright or slanted, for which the original's
+    /// font takes any shear; in glyph mode 1 that of the letter replaced.
     pub fn draw_glyph_sheared(&self, stroke: &Stroke, dst: &mut [u8], w: u32, h: u32) {
         let Stroke {
             ch, color, x, y, ..
         } = *stroke;
         let font = self.font(stroke.bold);
-        let shear = if stroke.italic {
-            font.cell_w as f32 / 4.0
-        } else {
-            0.0
-        };
+        let shear = font.cell_w as f32 * stroke.slant as f32 / 8.0;
         let ch = replaced::in_mode(stroke.mode, ch);
         font.draw_glyph_sheared(ch, dst, w, h, x, y, color, shear);
     }
@@ -101,7 +100,11 @@ impl Original {
     /// Draws a cue, with no face, into a buffer that begins with the picture.
     pub fn render_into(&self, settings: &Settings, cue: &SubtitleCue, dst: &mut [u8]) {
         fed(settings, cue, |cue| {
-            compositor(settings).render_into(cue, dst)
+            if self.is_as_it_was(settings) {
+                compositor::told(settings).render_into(cue, dst);
+            } else {
+                changed(settings).render_into(cue, dst);
+            }
         });
     }
 
@@ -132,8 +135,17 @@ impl Original {
         window: Range<usize>,
     ) -> usize {
         fed(settings, cue, |cue| {
-            compositor::draw_strokes(&compositor(settings), cue, dst, window)
+            if self.is_as_it_was(settings) {
+                compositor::draw_strokes(&compositor::told(settings), cue, dst, window)
+            } else {
+                house::draw_strokes(&changed(settings), cue, dst, window)
+            }
         })
+    }
+
+    /// Whether the original's text draws that nothing was changed in.
+    fn is_as_it_was(&self, settings: &Settings) -> bool {
+        !self.changed && settings.house == House::ORIGINAL
     }
 }
 
@@ -145,14 +157,12 @@ fn fed<R>(settings: &Settings, cue: &SubtitleCue, draw: impl FnOnce(&SubtitleCue
     }
 }
 
-fn compositor(settings: &Settings) -> Compositor {
-    let mut compositor = Compositor::new(settings.width, settings.height);
-    compositor.default_color = settings.default_color;
-    compositor.outline_color = settings.outline_color;
-    compositor.line_height_px = settings.line_height;
-    compositor.bottom_margin_px = settings.bottom_margin;
-    compositor.outline_px = settings.outline;
-    compositor
+/// A compositor of the changed text.
+fn changed(settings: &Settings) -> house::Compositor {
+    house::Compositor {
+        house: settings.house,
+        ..house::told(settings)
+    }
 }
 
 fn runs(opened: Vec<compositor::Opened>) -> Vec<Run> {

@@ -9,7 +9,7 @@ use std::ops::Range;
 pub enum Original {}
 
 impl Original {
-    pub(crate) fn find() -> Option<Original> {
+    pub(crate) fn find(_changed: bool) -> Option<Original> {
         None
     }
 

@@ -12,11 +12,34 @@ pub const LINE_HEIGHT_MAX: u32 = 1024;
 pub const ALIGNMENTS: [u32; 5] = [0, 1, 2, 3, 4];
 /// The glyph modes: 1 replaces some letters, 0 none.
 pub const GLYPH_MODES: [u32; 2] = [0, 1];
+/// The widest side margin.
+pub const SIDE_MARGIN_MAX: u32 = 255;
+/// The strongest slant, in eighths of a cell.
+pub const SLANT_MAX: u32 = 8;
+/// The highest cap of the outline.
+pub const OUTLINE_CAP_MAX: u32 = 4;
 /// The columns of a cell.
 const CELL_WIDTH: u32 = 8;
 
-/// The original's compositor is told all but the alignment, which the cue says, and the glyph mode, for
-/// which the cue's letters are replaced.
+/// The house settings of document 02's S-10. In the original they are fixed.
+#[derive(Clone, Copy, Debug, PartialEq)]
+pub struct House {
+    pub side_margin: u32,
+    pub slant: u32,
+    pub outline_cap: u32,
+}
+
+impl House {
+    /// The numbers that the original has.
+    pub const ORIGINAL: House = House {
+        side_margin: 8,
+        slant: 2,
+        outline_cap: 2,
+    };
+}
+
+/// The original's compositor is told all but the alignment, which the cue says, the glyph mode, for
+/// which the cue's letters are replaced, and the house settings, which its text is changed for.
 #[derive(Clone, Copy, Debug)]
 pub struct Settings {
     pub width: u32,
@@ -28,6 +51,7 @@ pub struct Settings {
     pub outline: u32,
     pub alignment: u32,
     pub glyph_mode: u32,
+    pub house: House,
 }
 
 impl Settings {
@@ -51,7 +75,7 @@ impl Settings {
 
     /// The strokes of one letter that has ink.
     pub fn strokes(&self) -> usize {
-        1 + 8 * self.outline.min(2) as usize
+        1 + 8 * self.outline.min(self.house.outline_cap) as usize
     }
 
     /// What a cue says so that the original aligns its lines so: center is said, or left unsaid.

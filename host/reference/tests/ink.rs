@@ -4,7 +4,7 @@
 
 use oxideav_core::{Segment, SubtitleCue};
 use reference::Original;
-use reference::settings::Settings;
+use reference::settings::{House, Settings};
 use std::ops::Range;
 
 /// Room for a line of six letters, at the left; those with ink have nine strokes.
@@ -18,6 +18,7 @@ const SETTINGS: Settings = Settings {
     outline: 1,
     alignment: 1,
     glyph_mode: 0,
+    house: House::ORIGINAL,
 };
 
 fn original() -> Original {

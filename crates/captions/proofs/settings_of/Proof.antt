@@ -36,6 +36,15 @@ array-read-t26 c = search needs
 array-read-t29 : tie.Need-array-read-t29
 array-read-t29 c = search needs
 
+array-read-t32 : tie.Need-array-read-t32
+array-read-t32 c = search needs
+
+array-read-t35 : tie.Need-array-read-t35
+array-read-t35 c = search needs
+
+array-read-t38 : tie.Need-array-read-t38
+array-read-t38 c = search needs
+
 returns : tie.Need-returns
 returns c =
     let own = c .before .color-bytes .ensures in
@@ -51,6 +60,9 @@ returns c =
       «outline_px» = getD words 6 0;
       align = getD words 7 0;
       «glyph_mode» = getD words 8 0;
+      «side_margin_px» = getD words 9 0;
+      slant = getD words 10 0;
+      «outline_cap_px» = getD words 11 0;
     }
 
 pub settings-of-spec : {M : Type 1} → statement M
@@ -68,4 +80,7 @@ settings-of-spec =
     array-read-t23
     array-read-t26
     array-read-t29
+    array-read-t32
+    array-read-t35
+    array-read-t38
     returns)

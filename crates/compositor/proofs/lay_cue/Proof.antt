@@ -10,6 +10,7 @@ use Rattle.wrap.proofs.CallWrap.{letters-held}
 use Rattle.compositor.specs.Outline.{outlineOf}
 use Rattle.compositor.specs.Draw.{tapeStrokes}
 use Rattle.compositor.specs.Order.{drawing}
+use Rattle.compositor.proofs.Ranges.{outline-small}
 use Rattle.compositor.proofs.WrappedLines.{total-small, cue-laid}
 use borrow.Author.Needs.{needs}
 use Rattle.compositor.proofs.lay_cue.Statement.{statement}
@@ -62,7 +63,7 @@ mul-t17 c =
     let inked = after-wrap-runs .wrap-runs .ensures .2 in
     let n = after-wrap-runs .wrap-runs .result .inked in
     let each = ap (λ (m : ℕ). n * m) (c .before .letter-strokes .ensures .0) in
-    let small = total-small n (outlineOf (start .args .s)) (omega arith) (omega arith) in
+    let small = total-small n (outlineOf (start .args .s)) (omega arith) (outline-small _ (start .pre .0)) in
     omega arith
 
 enum-known-number : tie.Need-enum-known-number
@@ -94,7 +95,7 @@ returns c =
     let on-lines = w .ensures .1 in
     let inked = w .ensures .2 in
     let means = sym (read-is _ _ _ (start .pre .1) (start .pre .2)) ∙ a .means in
-    cue-laid laid (start .args .s) limit _ (ap (onAccepted (drawing (start .args .s))) means) _ each (omega arith) (omega arith) (omega arith) (omega arith)
+    cue-laid laid (start .args .s) limit (start .pre .0) _ (ap (onAccepted (drawing (start .args .s))) means) _ each (omega arith) (omega arith) (omega arith) (omega arith)
 
 same-length-2 : tie.Need-same-length-2
 same-length-2 c = search needs

@@ -1,4 +1,4 @@
--- `round` meets its contract, in each of the 32 cases of `Moved`.
+-- `round` meets its contract, in each of the 144 cases of `Moved`.
 use mathlib.Core.Bool.{true, false}
 use native.Mathlib.Omega.{arith}
 use lib.Ieee.{ofBits, ofInt}
@@ -15,6 +15,9 @@ above : (c : tie.Else1) → Rounds false (c .before .args .x)
 unfolding ofBits ofInt
 above c = rw (c .if1 .left) at (moved-rounds _ (c .before .pre))
 
+cast-result : tie.Need-cast-result
+cast-result c = search needs
+
 truncating-f32-to-u64-requires : tie.Need-truncating-f32-to-u64-requires
 unfolding ofBits
 truncating-f32-to-u64-requires c κs = (below c .low, below c .high)
@@ -27,8 +30,11 @@ sub-result : tie.Need-sub-result
 unfolding ofBits
 sub-result c = omega (arith, below (c .before) .small, c .truncating-f32-to-u64 .ensures)
 
-cast-result : tie.Need-cast-result
-cast-result c = search needs
+cast-result-2 : tie.Need-cast-result-2
+cast-result-2 c = search needs
+
+cast-result-3 : tie.Need-cast-result-3
+cast-result-3 c = search needs
 
 truncating-f32-to-u64-requires-2 : tie.Need-truncating-f32-to-u64-requires-2
 unfolding ofBits
@@ -41,9 +47,9 @@ add-result-2 c = omega (arith, above (c .before) .small, c .truncating-f32-to-u6
 add-result-3 : tie.Need-add-result-3
 add-result-3 c = search needs
 
-cast-result-2 : tie.Need-cast-result-2
+cast-result-4 : tie.Need-cast-result-4
 unfolding ofBits
-cast-result-2 c = omega (arith, above (c .before) .small, c .truncating-f32-to-u642 .ensures)
+cast-result-4 c = omega (arith, above (c .before) .small, c .truncating-f32-to-u642 .ensures)
 
 returns : tie.Need-returns
 unfolding ofBits
@@ -57,13 +63,15 @@ pub round-spec : {M : Type 1} → statement M
 round-spec =
     tie.close
     (tie.spec
+    cast-result
     truncating-f32-to-u64-requires
     add-result
     sub-result
-    cast-result
+    cast-result-2
+    cast-result-3
     truncating-f32-to-u64-requires-2
     add-result-2
     add-result-3
-    cast-result-2
+    cast-result-4
     returns
     returns-2)

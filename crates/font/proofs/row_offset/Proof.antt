@@ -5,7 +5,7 @@ use lib.IntN.{pos, _-ℤ_}
 use lib.Ieee.{ofBits, ofInt, inFloat}
 use mir.Syntax.{w16}
 use mir.ValLaws.{toZ-ofZ, toZ-pos}
-use Rattle.font.specs.Shear.{leans, moved, rounded}
+use Rattle.font.specs.Shear.{slantOf, moved, rounded}
 use Rattle.font.proofs.Rounding.{moved-offset, distance-fits}
 use borrow.Author.Needs.{needs}
 use Rattle.font.proofs.row_offset.Statement.{statement}
@@ -32,8 +32,9 @@ unfolding ofBits ofInt moved
 round-requires c κs =
     let r = c .before .args .r in
     record {
-      italic = leans (c .before .args .shear);
+      slant = slantOf (c .before .args .shear);
       row = r;
+      few = c .before .pre .0 .few;
       below = c .before .pre .1;
       is =
           rw (toZ-pos w16 r (omega arith), toZ-ofZ w16 (pos 12 -ℤ pos r) (distance-fits r (c .before .pre .1)), ← (c .before .pre .0 .is));
@@ -43,7 +44,7 @@ returns : tie.Need-returns
 unfolding round-requires
 returns c =
     let m = round-requires (c .before) (c .round .lifetimes) in
-    c .round .ensures ∙ ap rounded (m .is) ∙ moved-offset (m .italic) (m .row) (m .below)
+    c .round .ensures ∙ ap rounded (m .is) ∙ moved-offset (m .slant) (m .row) (m .few) (m .below)
 
 pub row-offset-spec : {M : Type 1} → statement M
 row-offset-spec =

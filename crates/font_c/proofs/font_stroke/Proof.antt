@@ -13,12 +13,12 @@ use borrow.Author.Needs.{needs}
 use Rattle.font_c.proofs.font_stroke.Statement.{statement}
 use Rattle.font_c.proofs.font_stroke.Tie as tie
 
-sixteen : (width rows first mode code : ℕ) (bold italic : Bool) (k x y : ℕ) (l : List ℕ)
-    → strokedRows 16 width rows first mode code bold italic k x y l ≡ stroked width rows first mode code bold italic k x y l
+sixteen : (width rows first mode code : ℕ) (bold : Bool) (slant k x y : ℕ) (l : List ℕ)
+    → strokedRows 16 width rows first mode code bold slant k x y l ≡ stroked width rows first mode code bold slant k x y l
 unfolding strokedRows stroked
-sixteen width rows first mode code bold italic k x y l =
-    ap (λ (m : List ℕ). cond (admitted (length l) width rows first x y) m l)
-    (all-rows (glyphRows (tableOf bold) mode code) (rowOffsets italic) (colorBytes k) x y (4 * width) rows first l)
+sixteen width rows first mode code bold slant k x y l =
+    ap (λ (m : List ℕ). cond (admitted (length l) width rows first slant x y) m l)
+    (all-rows (glyphRows (tableOf bold) mode code) (rowOffsets slant) (colorBytes k) x y (4 * width) rows first l)
 
 font-stroke-rows-requires : tie.Need-font-stroke-rows-requires
 font-stroke-rows-requires c κs = search needs

@@ -10,7 +10,7 @@ use Rattle.font.specs.Font.{glyphRows}
 use Rattle.font.specs.Slant.{rowOffsets}
 use Rattle.font.specs.Shear.{penGlyph, penOffsets}
 use Rattle.font.specs.Upward.{partAfter}
-use Rattle.font.proofs.Rounding.{leans-back, shear-of}
+use Rattle.font.proofs.Rounding.{slant-back, shear-of}
 use Rattle.font_c.specs.Exported.{admitted, strokedRows}
 use Rattle.font_c.proofs.Admitted.{lent}
 use borrow.Author.Needs.{needs}
@@ -19,7 +19,7 @@ use Rattle.font_c.proofs.font_stroke_rows.Tie as tie
 
 admits : (c : tie.Else1)
     → let a = c .before .before .before .args in
-    admitted (length (a .part .now)) (a .width) (a .rows) (a .first) (a .x) (a .y) ≡ true
+    admitted (length (a .part .now)) (a .width) (a .rows) (a .first) (a .slant) (a .x) (a .y) ≡ true
 admits c = sym (c .before .is-admitted .ensures) ∙ not-false _ (c .if1 .left)
 
 is-admitted-requires : tie.Need-is-admitted-requires
@@ -35,10 +35,10 @@ color-bytes-requires : tie.Need-color-bytes-requires
 color-bytes-requires c κs = search needs
 
 new-requires : tie.Need-new-requires
-new-requires c κs = search needs
+new-requires c κs = lent _ _ _ _ (admits (c .before)) .0
 
 row-offsets-requires : tie.Need-row-offsets-requires
-row-offsets-requires c κs = rw (c .new .ensures) (shear-of _)
+row-offsets-requires c κs = rw (c .new .ensures) (shear-of _ (lent _ _ _ _ (admits (c .before .before)) .0))
 
 table-requires : tie.Need-table-requires
 table-requires c κs = search needs
@@ -50,7 +50,7 @@ draw-lowest-rows-requires : tie.Need-draw-lowest-rows-requires
 draw-lowest-rows-requires c κs =
     let letter = c .before .before .before .before in
     let after-new = letter .before .before .before .before in
-    lent _ _ _ (admits (after-new .before .before))
+    let admitted = lent _ _ _ _ (admits (after-new .before .before)) in (admitted .1, admitted .2)
 
 same-length : tie.Need-same-length
 same-length c = search needs
@@ -72,7 +72,7 @@ returns-2 c =
     letter .glyph-rows .ensures
     ∙ ap (λ (t : List ℕ). glyphRows t (a .mode) (a .code)) (after-table .table .ensures)
     ∙ ap (penGlyph record { mode = a .mode; code = a .code }) pen in
-    let offsets = after-row-offsets .row-offsets .ensures ∙ ap penOffsets pen ∙ ap rowOffsets (leans-back (a .italic)) in
+    let offsets = after-row-offsets .row-offsets .ensures ∙ ap penOffsets pen ∙ ap rowOffsets (slant-back (a .slant) (lent _ _ _ _ yes .0)) in
     record {
       answers = sym yes;
       leaves =

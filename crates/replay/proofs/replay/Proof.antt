@@ -29,7 +29,7 @@ returns : tie.Need-returns Inv-loop μ-loop
 returns c = tt
 
 -- an entry that is whole ends behind its header
-far : (c : tie.Else1 Inv-loop μ-loop) → c .before .before .before .loop .at + 40 ≤ c .before .entry-end .result
+far : (c : tie.Else1 Inv-loop μ-loop) → c .before .before .before .loop .at + 44 ≤ c .before .entry-end .result
 far c = c .before .entry-end .ensures (c .if1 .left)
 
 sub-entry : tie.Need-sub-entry Inv-loop μ-loop

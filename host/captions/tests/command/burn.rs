@@ -3,8 +3,9 @@
 use crate::run::run;
 use captions::{Align, GlyphMode, Settings, Workspace, draw};
 
-/// Two lines, letters of the default color and others, and a curly quote.
-const CUE: &[u8] = b"\x02H\x02i\x05\x08\x20\xc0\x40\x02y\x02o\x02u\x00\x02!\x03\x20\x19";
+/// Two lines, letters of the default color and others, a curly quote, and an italic letter.
+const CUE: &[u8] =
+    b"\x02H\x02i\x05\x08\x20\xc0\x40\x02y\x02o\x02u\x00\x02!\x03\x20\x19\x07\x02E\x00";
 
 /// The file that is due.
 fn due(settings: &Settings, tape: &[u8]) -> Vec<u8> {
@@ -39,9 +40,13 @@ fn burns_what_draw_draws() {
         outline_px: 2,
         align: Align::Right,
         glyph_mode: GlyphMode::Replaced,
+        side_margin_px: 13,
+        slant: 7,
+        outline_cap_px: 1,
     };
     let words = "--width 61 --height 47 --default-color 01020380 --outline-color FA005A4D \
-        --line-height 17 --bottom-margin 4 --outline 2 --align right --glyph-mode 1";
+        --line-height 17 --bottom-margin 4 --outline 2 --align right --glyph-mode 1 \
+        --side-margin 13 --slant 7 --outline-cap 1";
     let words: Vec<&str> = words.split_whitespace().collect();
     assert!(burnt(&words) == due(&small, CUE));
 }
@@ -58,11 +63,23 @@ fn takes_frames_without_pixels() {
 /// Holds an option with a value to the one change that it makes, which has to show.
 #[track_caller]
 fn sets(name: &str, value: &str, change: impl Fn(&mut Settings)) {
-    let mut changed = settings();
+    sets_beside(&[], settings(), [name, value], change);
+}
+
+/// The same, beside options that make other settings.
+#[track_caller]
+fn sets_beside(
+    words: &[&str],
+    settings: Settings,
+    [name, value]: [&str; 2],
+    change: impl Fn(&mut Settings),
+) {
+    let mut changed = settings;
     change(&mut changed);
     let frame = due(&changed, CUE);
-    let shows = frame != due(&settings(), CUE);
-    assert_eq!(shows, changed != settings(), "{name} {value}");
+    let shows = frame != due(&settings, CUE);
+    assert_eq!(shows, changed != settings, "{name} {value}");
+    let burnt = |more: &[&str]| burnt(&[words, more].concat());
     assert!(burnt(&[name, value]) == frame, "{name} {value}");
     let word = format!("{name}={value}");
     assert!(burnt(&[&word]) == frame, "{word}");
@@ -129,6 +146,34 @@ fn glyphs_are_of_the_mode() {
     }
 }
 
+/// A side margin shows at a side alone, and a cap where the outline goes over it.
+#[test]
+fn house_settings_are_as_asked() {
+    let words = ["--align", "end", "--outline", "9"];
+    let settings = Settings {
+        align: Align::End,
+        outline_px: 9,
+        ..settings()
+    };
+    let sets = |name: &str, value: u32, change: fn(&mut Settings, u32)| {
+        let option = [name, &value.to_string()[..]];
+        sets_beside(&words, settings, option, |settings| change(settings, value));
+    };
+    for value in [0, 7, 8, 9, 255] {
+        sets("--side-margin", value, |settings, value| {
+            settings.side_margin_px = value;
+        });
+    }
+    for value in 0..=8 {
+        sets("--slant", value, |settings, value| settings.slant = value);
+    }
+    for value in 0..=4 {
+        sets("--outline-cap", value, |settings, value| {
+            settings.outline_cap_px = value;
+        });
+    }
+}
+
 #[test]
 fn the_last_of_an_option_counts() {
     assert!(
@@ -186,6 +231,12 @@ fn names_the_settings_out_of_range() {
         ("--width", "4097", 4096),
         ("--height", "4294967295", 4096),
         ("--line-height", "1025", 1024),
+        ("--side-margin", "256", 255),
+        ("--slant", "9", 8),
+        ("--outline-cap", "5", 4),
+        ("--side-margin", "4294967295", 255),
+        ("--slant", "4294967295", 8),
+        ("--outline-cap", "4294967295", 4),
     ];
     for (name, value, most) in cases {
         let message = format!("refused 8: {name} is {value}, and its range is 0 to {most}");
@@ -196,6 +247,11 @@ fn names_the_settings_out_of_range() {
     let message = "refused 8: --width is 5000, and its range is 0 to 4096; \
         --line-height is 2000, and its range is 0 to 1024";
     run(&["burn", "--line-height", "2000", "--width", "5000"], CUE).failed(1, "", message);
+    let message = "refused 8: --side-margin is 300, and its range is 0 to 255; \
+        --slant is 90, and its range is 0 to 8; --outline-cap is 6, and its range is 0 to 4";
+    let words = "burn --outline-cap 6 --slant 90 --side-margin 300";
+    let words: Vec<&str> = words.split(' ').collect();
+    run(&words, CUE).failed(1, "", message);
 }
 
 #[test]
@@ -204,6 +260,9 @@ fn takes_settings_at_the_end_of_their_ranges() {
         ("--width", "4096"),
         ("--height", "4096"),
         ("--line-height", "1024"),
+        ("--side-margin", "255"),
+        ("--slant", "8"),
+        ("--outline-cap", "4"),
     ] {
         run(&["burn", name, value], CUE).done();
     }

@@ -48,13 +48,26 @@ fn keeps_what_the_deposit_has() {
 fn keeps_nothing_of_a_clear_picture() {
     let words = "keep --width 4096 --height 4096 --outline 0";
     let words: Vec<&str> = words.split(' ').collect();
-    let due = "settings 4096 4096 FFFFFFFF 000000FF 20 24 0 0 0\nstrokes 0\nsum 0\n";
+    let due = "settings 4096 4096 FFFFFFFF 000000FF 20 24 0 0 0 8 2 2\nstrokes 0\nsum 0\n";
     assert_eq!(run(&words, b"").text(), due);
+}
+
+/// Each stands in its place, and strokes are counted by the cap: a letter with 1 + 8 · 3.
+#[test]
+fn keeps_the_house_settings_as_the_last_three() {
+    let words = "keep --width 0 --outline 9 --side-margin 255 --slant 7 --outline-cap 3";
+    let words: Vec<&str> = words.split(' ').collect();
+    let due = "settings 0 360 FFFFFFFF 000000FF 20 24 9 0 0 255 7 3\nstrokes 25\nsum 0\n";
+    assert_eq!(run(&words, b"\x02A").text(), due);
 }
 
 #[test]
 fn refuses_as_burn_does() {
-    for (words, tape) in [(&["--width", "5000"][..], &b"\x02A"[..]), (&[], b"\x06")] {
+    for (words, tape) in [
+        (&["--width", "5000"][..], &b"\x02A"[..]),
+        (&["--slant", "9"], b"\x02A"),
+        (&[], b"\x06"),
+    ] {
         let [burn, keep] = ["burn", "keep"].map(|name| run(&[&[name], words].concat(), tape));
         assert_eq!((keep.status, &keep.out), (1, &Vec::new()));
         assert_eq!(keep.error, burn.error);

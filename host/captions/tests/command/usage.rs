@@ -43,7 +43,7 @@ fn helps_with_each_subcommand() {
 /// An option, and what the two lines of its help say.
 type Said = [&'static str; 3];
 
-const OF_BURN: [Said; 11] = [
+const OF_BURN: [Said; 14] = [
     ["--width", "from 0 to 4096", "640 by default"],
     ["--height", "from 0 to 4096", "360 by default"],
     [
@@ -65,6 +65,9 @@ const OF_BURN: [Said; 11] = [
         "center by default",
     ],
     ["--glyph-mode", "0 or 1", "0 by default"],
+    ["--side-margin", "from 0 to 255", "8 by default"],
+    ["--slant", "from 0 to 8", "2 by default"],
+    ["--outline-cap", "from 0 to 4", "2 by default"],
     ["--stripes", "from 1 to 4294967295", "64"],
     ["--budget", "from 1 to 4294967295", "all by default"],
 ];
@@ -171,7 +174,7 @@ fn says_what_is_wrong_with_the_words() {
 }
 
 /// Words, and of the option at fault its name, its range and its value.
-const NO_NUMBERS: [(&str, [&str; 3]); 5] = [
+const NO_NUMBERS: [(&str, [&str; 3]); 8] = [
     ("lines --columns -1", ["--columns", "1 to 4096", "-1"]),
     (
         "burn --width --height",
@@ -182,6 +185,9 @@ const NO_NUMBERS: [(&str, [&str; 3]); 5] = [
         ["--outline", "0 to 4294967295", "4294967296"],
     ),
     ("burn --line-height=", ["--line-height", "0 to 1024", ""]),
+    ("burn --side-margin -1", ["--side-margin", "0 to 255", "-1"]),
+    ("keep --slant=2.5", ["--slant", "0 to 8", "2.5"]),
+    ("keep --outline-cap two", ["--outline-cap", "0 to 4", "two"]),
     (
         "burn --stripes 9 --budget 0",
         ["--budget", "1 to 4294967295", "0"],

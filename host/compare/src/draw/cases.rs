@@ -3,7 +3,7 @@
 use crate::count::Count;
 use crate::draw::due;
 use crate::draw::frame::Frame;
-use crate::draw::settings::Settings;
+use crate::draw::settings::{House, Settings};
 use crate::random::Random;
 use crate::tape::ROOM;
 use crate::tape::segments::each_letter;
@@ -41,6 +41,7 @@ pub fn translucent(width: u32, height: u32) -> Settings {
         outline: 1,
         alignment: 0,
         glyph_mode: 0,
+        house: House::ORIGINAL,
     }
 }
 

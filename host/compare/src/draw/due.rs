@@ -1,7 +1,10 @@
 //! What is due of a call: the original's picture, or the refusal that documents 01 and 02 ask for.
 
 use crate::draw::frame::{Drawn, Frame, Outcome};
-use crate::draw::settings::{ALIGNMENTS, GLYPH_MODES, LINE_HEIGHT_MAX, SIDE_MAX, Settings};
+use crate::draw::settings::{
+    ALIGNMENTS, GLYPH_MODES, LINE_HEIGHT_MAX, OUTLINE_CAP_MAX, SIDE_MARGIN_MAX, SIDE_MAX,
+    SLANT_MAX, Settings,
+};
 use crate::refusal::{Refusal, plain};
 use crate::tape::letters::{self, segments};
 use crate::tape::{MOST_BYTES, ROOM, reading};
@@ -18,12 +21,22 @@ pub struct Strokes {
 
 /// What the original draws of a cue over these bytes, and its strokes.
 pub fn drawn(original: &Original, settings: &Settings, cue: &SubtitleCue, bytes: &[u8]) -> Drawn {
-    let mut bytes = bytes.to_vec();
-    original.render_into(settings, cue, &mut bytes);
     Drawn {
         strokes: strokes(original, settings, &cue.segments).total,
-        bytes,
+        bytes: picture(original, settings, cue, bytes),
     }
+}
+
+/// What these bytes are after the original has drawn a cue over them.
+pub fn picture(
+    original: &Original,
+    settings: &Settings,
+    cue: &SubtitleCue,
+    bytes: &[u8],
+) -> Vec<u8> {
+    let mut bytes = bytes.to_vec();
+    original.render_into(settings, cue, &mut bytes);
+    bytes
 }
 
 /// The strokes of a cue: the original's letters on lines are counted for them, where the glyphs that
@@ -64,12 +77,7 @@ pub fn letters(frame: &Frame) -> letters::Outcome {
 /// picture's buffer, its tape or its workspace.
 pub fn settings_and_lengths(frame: &Frame) -> Result<(), Refusal> {
     let settings = &frame.settings;
-    if settings.width > SIDE_MAX
-        || settings.height > SIDE_MAX
-        || settings.line_height > LINE_HEIGHT_MAX
-        || !ALIGNMENTS.contains(&settings.alignment)
-        || !GLYPH_MODES.contains(&settings.glyph_mode)
-    {
+    if is_out_of_range(settings) {
         plain(8)
     } else if frame.bytes.len() < settings.area() {
         plain(9)
@@ -80,4 +88,16 @@ pub fn settings_and_lengths(frame: &Frame) -> Result<(), Refusal> {
     } else {
         Ok(())
     }
+}
+
+fn is_out_of_range(settings: &Settings) -> bool {
+    let house = &settings.house;
+    settings.width > SIDE_MAX
+        || settings.height > SIDE_MAX
+        || settings.line_height > LINE_HEIGHT_MAX
+        || !ALIGNMENTS.contains(&settings.alignment)
+        || !GLYPH_MODES.contains(&settings.glyph_mode)
+        || house.side_margin > SIDE_MARGIN_MAX
+        || house.slant > SLANT_MAX
+        || house.outline_cap > OUTLINE_CAP_MAX
 }

@@ -1,6 +1,6 @@
 //! Random settings, cues and buffers.
 
-use crate::draw::settings::{ALIGNMENTS, GLYPH_MODES, LINE_HEIGHT_MAX, SIDE_MAX, Settings};
+use crate::draw::settings::{ALIGNMENTS, GLYPH_MODES, House, LINE_HEIGHT_MAX, SIDE_MAX, Settings};
 use crate::random::Random;
 use crate::tape::segments;
 use crate::wrap::cues::{self, Cue};
@@ -13,13 +13,13 @@ type Make = fn(&mut Random) -> char;
 /// What many letters of a cue may be.
 const MANY: [Make; 3] = [letter, curly::letter, inkless::letter];
 
-/// Settings within their ranges.
+/// Settings within their ranges, of which the house settings are the original's.
 pub fn settings(random: &mut Random) -> Settings {
     let (width, height) = size(random);
     sized(random, width, height)
 }
 
-/// Settings within their ranges, of a picture of this size.
+/// Such settings of a picture of this size.
 pub fn sized(random: &mut Random, width: u32, height: u32) -> Settings {
     Settings {
         width,
@@ -36,6 +36,7 @@ pub fn sized(random: &mut Random, width: u32, height: u32) -> Settings {
         outline: outline(random),
         alignment: random.pick(&ALIGNMENTS),
         glyph_mode: random.pick(&GLYPH_MODES),
+        house: House::ORIGINAL,
     }
 }
 

@@ -16,12 +16,13 @@ pub mod speed;
 
 use crate::count::Count;
 use crate::random::Random;
-use crate::wrap;
-use frame::Frame;
+use crate::wrap::{self, cues::Cue};
+use frame::{Drawn, Frame};
 use kinds::Kinds;
 use oxideav_core::SubtitleCue;
 pub use reference::settings;
 use reference::{Original, replaced};
+use settings::Settings;
 
 /// Sets the frames apart from the cues of the same seed.
 const FRAMES: u64 = 0xf4a3e5;
@@ -58,6 +59,18 @@ fn random(original: &Original, seed: u64, frames: u64) -> Count {
 fn random_frame(original: &Original, random: &mut Random, kinds: &mut Kinds) -> Result<(), String> {
     let settings = generate::settings(random);
     let cue = generate::cue(random);
+    let (frame, cue) = call(random, settings, cue);
+    let strokes = due::strokes(original, &settings, &cue.segments);
+    let due = Drawn {
+        strokes: strokes.total,
+        bytes: due::picture(original, &settings, &cue, &frame.bytes),
+    };
+    kinds.add(&settings, replaced::count(&cue.segments), &strokes, &due);
+    frame.hold(&Ok(due))
+}
+
+/// A call of Draw over random bytes, and the cue as the original is given it.
+pub fn call(random: &mut Random, settings: Settings, cue: Cue) -> (Frame, SubtitleCue) {
     let frame = Frame {
         settings,
         tape: cue.tape,
@@ -68,8 +81,5 @@ fn random_frame(original: &Original, random: &mut Random, kinds: &mut Kinds) -> 
         segments: cue.segments,
         positioning: settings.positioning(random.one_in(2)),
     };
-    let due = due::drawn(original, &settings, &cue, &frame.bytes);
-    let strokes = due::strokes(original, &settings, &cue.segments);
-    kinds.add(&settings, replaced::count(&cue.segments), &strokes, &due);
-    frame.hold(&Ok(due))
+    (frame, cue)
 }

@@ -5,7 +5,9 @@ use crate::draw::cases::translucent;
 use crate::draw::due;
 use crate::draw::frame::Frame;
 use crate::draw::generate;
-use crate::draw::settings::{LINE_HEIGHT_MAX, SIDE_MAX, Settings};
+use crate::draw::settings::{
+    LINE_HEIGHT_MAX, OUTLINE_CAP_MAX, SIDE_MARGIN_MAX, SIDE_MAX, SLANT_MAX, Settings,
+};
 use crate::random::Random;
 use crate::refusal::{Refusal, Tally, plain};
 use crate::tape::limits::stopped;
@@ -20,7 +22,7 @@ const ROOMS: [usize; 4] = [ROOM, ROOM + 1, ROOM - 1, 0];
 /// A setting put out of its range.
 pub type Break = fn(&mut Settings);
 
-pub const BREAKS: [Break; 18] = [
+pub const BREAKS: [Break; 30] = [
     |settings| settings.width = SIDE_MAX + 1,
     |settings| settings.width = 1 << 16,
     |settings| settings.width = 1 << 31,
@@ -39,6 +41,18 @@ pub const BREAKS: [Break; 18] = [
     |settings| settings.glyph_mode = 256,
     |settings| settings.glyph_mode = 1 << 31,
     |settings| settings.glyph_mode = u32::MAX,
+    |settings| settings.house.side_margin = SIDE_MARGIN_MAX + 1,
+    |settings| settings.house.side_margin = 1 << 16,
+    |settings| settings.house.side_margin = 1 << 31,
+    |settings| settings.house.side_margin = u32::MAX,
+    |settings| settings.house.slant = SLANT_MAX + 1,
+    |settings| settings.house.slant = 256,
+    |settings| settings.house.slant = 1 << 31,
+    |settings| settings.house.slant = u32::MAX,
+    |settings| settings.house.outline_cap = OUTLINE_CAP_MAX + 1,
+    |settings| settings.house.outline_cap = 256,
+    |settings| settings.house.outline_cap = 1 << 31,
+    |settings| settings.house.outline_cap = u32::MAX,
 ];
 
 /// Every setting out of range, and none, with every buffer and every room, and with each tape that

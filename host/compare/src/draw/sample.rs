@@ -5,7 +5,10 @@ use crate::digest::digest;
 use crate::draw::due;
 use crate::draw::frame::{Frame, Outcome};
 use crate::draw::generate;
-use crate::draw::settings::{LINE_HEIGHT_MAX, SIDE_MAX};
+use crate::draw::settings::{
+    House, LINE_HEIGHT_MAX, OUTLINE_CAP_MAX, SIDE_MARGIN_MAX, SIDE_MAX, SLANT_MAX,
+};
+use crate::house::generate::italic;
 use crate::random::Random;
 use crate::sample::{self, Due, Sample, most};
 use crate::tape::{ROOM, damage};
@@ -14,18 +17,21 @@ use oxideav_core::{Segment, SubtitleCue};
 use reference::Original;
 use std::ops::RangeInclusive;
 
-/// Twenty are refused.
+/// Twenty-two are refused.
 const SAMPLE: Sample = Sample {
     seed: 22,
     entries: 360,
-    apart: 18,
+    apart: 16,
 };
+/// Of so many captions the last has other house settings than the original's.
+const HOUSE_APART: u64 = 3;
 /// How long a tape may be, where its letters are not too many.
 const SHORT: usize = 400;
 /// What a buffer holds before the first call.
 pub const FILLED: u8 = 0x5a;
-/// The outlines, which each alignment meets in turn.
+/// The outlines, which each alignment meets in turn, and those at other house settings.
 const OUTLINES: [u32; 4] = [1, 2, 0, 9];
+const HOUSE_OUTLINES: [u32; 4] = [4, 3, 9, 1];
 
 struct Entry {
     frame: Frame,
@@ -41,10 +47,10 @@ pub fn entries() -> Vec<u8> {
     bytes
 }
 
-/// Puts an entry behind others: the settings in their order, of which width and height have two bytes
-/// and the others four; two bytes each of the stripe height, of the job's calls, which a Draw has none
-/// of, of the picture's buffer's length and of how many bytes follow, high byte first; and the Works
-/// and the tape.
+/// Puts an entry behind others: the settings in their order, of which width, height and side margin have
+/// two bytes, slant and outline cap one, and the others four; two bytes each of the stripe height, of the
+/// job's calls, which a Draw has none of, of the picture's buffer's length and of how many bytes follow,
+/// high byte first; and the Works and the tape.
 pub fn put(bytes: &mut Vec<u8>, frame: &Frame, stripe_height: u16, calls: u16, works: &[u8]) {
     let settings = &frame.settings;
     for side in [settings.width, settings.height] {
@@ -61,6 +67,9 @@ pub fn put(bytes: &mut Vec<u8>, frame: &Frame, stripe_height: u16, calls: u16, w
     ] {
         bytes.extend(number.to_be_bytes());
     }
+    let house = &settings.house;
+    bytes.extend((house.side_margin as u16).to_be_bytes());
+    bytes.extend([house.slant, house.outline_cap].map(|number| number as u8));
     let follow = works.len() + frame.tape.len();
     let size = frame.bytes.len();
     for number in [stripe_height, calls, size as u16, follow as u16] {
@@ -99,7 +108,7 @@ fn all() -> impl Iterator<Item = Entry> {
 }
 
 fn drawn(random: &mut Random, number: u64) -> Entry {
-    let (frame, segments) = caption(random, number, 0..=60, SHORT);
+    let (frame, segments) = caption(random, number, 0..=58, SHORT);
     Entry {
         frame,
         due: Ok(segments),
@@ -114,11 +123,7 @@ pub fn caption(
     most: usize,
 ) -> (Frame, Vec<Segment>) {
     let Cue { segments, tape } = loop {
-        let cue = if random.one_in(4) {
-            cues::sized(random, letters.clone())
-        } else {
-            generate::legible(random, letters.clone())
-        };
+        let cue = cue(random, letters.clone(), is_house(number));
         if cue.tape.len() <= most {
             break cue;
         }
@@ -130,7 +135,46 @@ pub fn caption(
     if !random.one_in(6) {
         frame.settings.bottom_margin = random.within_u32(0..=12);
     }
+    if is_house(number) {
+        frame.settings.outline = HOUSE_OUTLINES[(number / 7 % 4) as usize];
+        frame.settings.house = house(random, number / HOUSE_APART);
+    }
     (frame, segments)
+}
+
+/// Whether the caption with this number has other house settings than the original's.
+fn is_house(number: u64) -> bool {
+    number % HOUSE_APART == HOUSE_APART - 1
+}
+
+/// A cue of so many letters; at other house settings in half of the cases in italic, so that the slant
+/// is seen.
+fn cue(random: &mut Random, letters: RangeInclusive<i64>, house: bool) -> Cue {
+    let cue = if random.one_in(4) {
+        cues::sized(random, letters)
+    } else {
+        generate::legible(random, letters)
+    };
+    if house && random.one_in(2) {
+        italic(cue)
+    } else {
+        cue
+    }
+}
+
+/// Each slant with each outline cap in turn, and a margin that a small picture shows mostly.
+fn house(random: &mut Random, number: u64) -> House {
+    let side_margin = match random.within(0..=7) {
+        0 => 0,
+        1 => SIDE_MARGIN_MAX,
+        2 => random.within_u32(0..=SIDE_MARGIN_MAX),
+        _ => random.within_u32(0..=30),
+    };
+    House {
+        side_margin,
+        slant: number as u32 % (SLANT_MAX + 1),
+        outline_cap: number as u32 % (OUTLINE_CAP_MAX + 1),
+    }
 }
 
 /// A picture of at most 64,000 bytes, and now and then a few bytes behind it.
@@ -151,13 +195,13 @@ fn small(random: &mut Random, tape: Vec<u8>) -> Frame {
     }
 }
 
-/// An entry that is refused: for its tape, each fault once and most twice, for a setting or for its
+/// An entry that is refused: for its tape, each fault once and some twice, for a setting or for its
 /// buffer.
 fn refused(random: &mut Random, index: u64) -> Entry {
     let number = match index {
         0..7 => index as u32 + 1,
-        7..12 => index as u32 - 6,
-        12..18 => 8,
+        7..10 => index as u32 - 6,
+        10..20 => 8,
         _ => 9,
     };
     loop {
@@ -177,14 +221,24 @@ fn refused(random: &mut Random, index: u64) -> Entry {
 fn spoil(frame: &mut Frame, index: u64) {
     let settings = &mut frame.settings;
     match index {
-        12 => settings.width = SIDE_MAX + 1,
-        13 => settings.height = SIDE_MAX + 1,
-        14 => settings.line_height = LINE_HEIGHT_MAX + 1,
-        15 => settings.alignment = 5,
-        16 => settings.glyph_mode = 2,
-        17 => (settings.width, settings.height) = (u16::MAX.into(), u16::MAX.into()),
-        18 => frame.bytes.truncate(settings.area().saturating_sub(1)),
-        19 => frame.bytes.clear(),
+        10 => settings.width = SIDE_MAX + 1,
+        11 => settings.height = SIDE_MAX + 1,
+        12 => settings.line_height = LINE_HEIGHT_MAX + 1,
+        13 => settings.alignment = 5,
+        14 => settings.glyph_mode = 2,
+        15 => (settings.width, settings.height) = (u16::MAX.into(), u16::MAX.into()),
+        16 => settings.house.side_margin = SIDE_MARGIN_MAX + 1,
+        17 => settings.house.slant = SLANT_MAX + 1,
+        18 => settings.house.outline_cap = OUTLINE_CAP_MAX + 1,
+        19 => {
+            settings.house = House {
+                side_margin: u16::MAX.into(),
+                slant: u8::MAX.into(),
+                outline_cap: u8::MAX.into(),
+            }
+        }
+        20 => frame.bytes.truncate(settings.area().saturating_sub(1)),
+        21 => frame.bytes.clear(),
         _ => {}
     }
 }

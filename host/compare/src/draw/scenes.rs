@@ -1,7 +1,7 @@
 //! The cues whose drawing is timed.
 
 use crate::draw::cases::{Colors, marked};
-use crate::draw::settings::Settings;
+use crate::draw::settings::{House, OUTLINE_CAP_MAX, SLANT_MAX, Settings};
 use crate::random::Random;
 use crate::tape::segments::MOST_LETTERS;
 use oxideav_core::Segment;
@@ -22,6 +22,7 @@ pub struct Scene {
     text: String,
     bold_italic: bool,
     pub glyph_mode: u32,
+    house: House,
 }
 
 pub fn scenes() -> Vec<Scene> {
@@ -36,8 +37,9 @@ pub fn scenes() -> Vec<Scene> {
     ]
 }
 
-/// Cues of which no letter has more than one stroke, or whose letters stand in no order; and one in
-/// glyph mode 1.
+/// Cues of which no letter has more than one stroke, or whose letters stand in no order; one in glyph
+/// mode 1; and one with the strongest slant and the most outline that there may be, at which the
+/// original's changed text is timed.
 pub fn harder_scenes() -> Vec<Scene> {
     let curly = over_and_over(CURLY, MOST_LETTERS);
     vec![
@@ -45,6 +47,9 @@ pub fn harder_scenes() -> Vec<Scene> {
         Scene::new("4096 letters at random", FILLED, 0, at_random()).bold_italic(),
         Scene::new("4096 letters at random", FILLED, 1, at_random()).bold_italic(),
         Scene::new("4096 letters, some curly", FILLED, 0, curly).in_mode_1(),
+        Scene::new("4096 letters", FILLED, OUTLINE_CAP_MAX, words(MOST_LETTERS))
+            .bold_italic()
+            .slanted(),
     ]
 }
 
@@ -80,6 +85,7 @@ impl Scene {
             text,
             bold_italic: false,
             glyph_mode: 0,
+            house: House::ORIGINAL,
         }
     }
 
@@ -87,6 +93,18 @@ impl Scene {
         Scene {
             name: format!("{}, glyph mode 1", self.name),
             glyph_mode: 1,
+            ..self
+        }
+    }
+
+    fn slanted(self) -> Scene {
+        Scene {
+            name: format!("{0}, slant {SLANT_MAX}, cap {OUTLINE_CAP_MAX}", self.name),
+            house: House {
+                slant: SLANT_MAX,
+                outline_cap: OUTLINE_CAP_MAX,
+                ..self.house
+            },
             ..self
         }
     }
@@ -120,6 +138,7 @@ impl Scene {
             outline: self.outline,
             alignment: 0,
             glyph_mode: self.glyph_mode,
+            house: self.house,
         }
     }
 }

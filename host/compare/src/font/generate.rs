@@ -4,7 +4,7 @@ use crate::curly;
 use crate::font::picture::{Picture, Stroke, fence};
 use crate::font::proved::{ORIGIN, PLACE_END, PLACE_MIN, SIDE_MAX};
 use crate::random::Random;
-use reference::settings::GLYPH_MODES;
+use reference::settings::{GLYPH_MODES, SLANT_MAX};
 use std::ops::RangeInclusive;
 
 /// The columns where a stroke may start and the rows where its base line may stand, counted from
@@ -86,12 +86,21 @@ pub fn stroke(random: &mut Random, width: u32, height: u32) -> Stroke {
         mode: random.pick(&GLYPH_MODES),
         ch: letter(random),
         bold: random.one_in(2),
-        italic: random.one_in(2),
+        slant: slant(random),
         color: random.color(),
-        // A glyph is eight columns wide, of which the slant moves some by two; it has twelve rows
-        // over its base line and four from there on.
-        x: place(random, -9..=width - 1),
+        // A glyph is eight columns wide, of which the slant moves some right by up to six and others
+        // left by one; it has twelve rows over its base line and four from there on.
+        x: place(random, -13..=width),
         y: place(random, -3..=height + 11),
+    }
+}
+
+/// Often none, often that of the original's italic.
+fn slant(random: &mut Random) -> u32 {
+    match random.within(0..=5) {
+        0 | 1 => 0,
+        2 | 3 => 2,
+        _ => random.within_u32(0..=SLANT_MAX),
     }
 }
 

@@ -28,7 +28,7 @@ pub fn as_proved(stroke: &Stroke) -> proved::Stroke {
         mode: stroke.mode,
         code: u32::from(stroke.ch),
         bold: stroke.bold,
-        italic: stroke.italic,
+        slant: stroke.slant,
         color: u32::from_be_bytes(stroke.color),
         x: ORIGIN.wrapping_add_signed(stroke.x),
         y: ORIGIN.wrapping_add_signed(stroke.y),

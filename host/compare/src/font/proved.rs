@@ -18,13 +18,14 @@ pub struct Part {
     pub first: u32,
 }
 
-/// One glyph to draw, in a glyph mode. The colour is 0xRRGGBBAA, `y` is the base line.
+/// One glyph to draw, in a glyph mode, with a slant in eighths of a cell. The colour is 0xRRGGBBAA, `y`
+/// is the base line.
 #[derive(Clone, Copy, Debug)]
 pub struct Stroke {
     pub mode: u32,
     pub code: u32,
     pub bold: bool,
-    pub italic: bool,
+    pub slant: u32,
     pub color: u32,
     pub x: u32,
     pub y: u32,
@@ -42,7 +43,7 @@ unsafe extern "C" {
         mode: u32,
         code: u32,
         bold: bool,
-        italic: bool,
+        slant: u32,
         color: u32,
         x: u32,
         y: u32,
@@ -57,7 +58,7 @@ unsafe extern "C" {
         mode: u32,
         code: u32,
         bold: bool,
-        italic: bool,
+        slant: u32,
         color: u32,
         x: u32,
         y: u32,
@@ -85,7 +86,7 @@ pub fn stroke(bytes: &mut [u8], part: Part, stroke: Stroke) -> bool {
             stroke.mode,
             stroke.code,
             stroke.bold,
-            stroke.italic,
+            stroke.slant,
             stroke.color,
             stroke.x,
             stroke.y,
@@ -106,7 +107,7 @@ pub fn stroke_rows(bytes: &mut [u8], part: Part, stroke: Stroke, count: u32) -> 
             stroke.mode,
             stroke.code,
             stroke.bold,
-            stroke.italic,
+            stroke.slant,
             stroke.color,
             stroke.x,
             stroke.y,

@@ -5,8 +5,9 @@ use crate::fenced::{Fenced, Lent};
 use crate::font::generate;
 use crate::font::picture::{as_proved, fence};
 use crate::font::proved::{self, ORIGIN, PLACE_END, PLACE_MIN, Part, SIDE_MAX, Stroke};
-use crate::font::strokes::STYLES;
+use crate::font::strokes::slanted;
 use crate::random::Random;
+use reference::settings::SLANT_MAX;
 
 /// How many random strokes are refused beside those at the limits.
 const RANDOM: u64 = 20_000;
@@ -25,9 +26,9 @@ struct Call {
 
 pub fn compare(seed: u64) -> Count {
     let mut count = Count::new("refusals");
-    for (bold, italic) in STYLES {
-        count.check(accepted(dot(bold, italic)));
-        for call in just_past(dot(bold, italic)) {
+    for (bold, slant) in slanted() {
+        count.check(accepted(dot(bold, slant)));
+        for call in just_past(dot(bold, slant)) {
             count.check(refused(call));
         }
     }
@@ -40,8 +41,8 @@ pub fn compare(seed: u64) -> Count {
     count
 }
 
-/// A good call: the missing glyph lights the one pixel of the part, in every style.
-fn dot(bold: bool, italic: bool) -> Call {
+/// A good call: the missing glyph lights the one pixel of the part, with every slant.
+fn dot(bold: bool, slant: u32) -> Call {
     Call {
         part: Part {
             width: 1,
@@ -53,9 +54,9 @@ fn dot(bold: bool, italic: bool) -> Call {
             mode: 0,
             code: 256,
             bold,
-            italic,
+            slant,
             color: 0xffff_ffff,
-            x: ORIGIN - 3,
+            x: ORIGIN - 6,
             y: ORIGIN + 10,
         },
     }
@@ -71,6 +72,9 @@ fn just_past(good: Call) -> Vec<Call> {
             with(good, |call| call.part.rows = side),
             with(good, |call| call.part.first = side),
         ]);
+    }
+    for slant in [SLANT_MAX + 1, 16, 256, 258].into_iter().chain(much) {
+        calls.push(with(good, |call| call.stroke.slant = slant));
     }
     for place in [
         0,
@@ -121,7 +125,7 @@ fn faulty(random: &mut Random) -> Call {
         stroke,
     };
     for _ in 0..random.within(1..=3) {
-        match random.within(0..=7) {
+        match random.within(0..=8) {
             0 => call.part.width = past(random, SIDE_MAX),
             1 => call.part.rows = past(random, SIDE_MAX),
             2 => call.part.first = past(random, SIDE_MAX),
@@ -129,6 +133,7 @@ fn faulty(random: &mut Random) -> Call {
             4 => call.stroke.y = past(random, PLACE_END - 1),
             5 => call.stroke.x = random.within_u32(0..=PLACE_MIN - 1),
             6 => call.stroke.y = random.within_u32(0..=PLACE_MIN - 1),
+            7 => call.stroke.slant = past(random, SLANT_MAX),
             _ => call.len = random.within_u32(0..=area - 1) as usize,
         }
     }

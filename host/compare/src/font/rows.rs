@@ -4,14 +4,14 @@ use crate::count::Count;
 use crate::curly::REPLACED;
 use crate::font::picture::{Picture, Stroke};
 use crate::font::proved;
-use crate::font::strokes::{HALF, STYLES, filled};
+use crate::font::strokes::{HALF, filled, slanted};
 use reference::Original;
 
 /// Room for a glyph, a slanted one too.
-const WIDTH: u32 = 14;
+const WIDTH: u32 = 18;
 const HEIGHT: u32 = 20;
 /// Over the left side, inside, and over the right side.
-const COLUMNS: [i32; 3] = [-4, 2, 10];
+const COLUMNS: [i32; 3] = [-4, 2, 14];
 /// Over the upper side, inside, and over the lower side.
 const BASE_LINES: [i32; 3] = [5, 13, 20];
 /// All rows lent at once, and in two parts of which a glyph has some rows each.
@@ -19,19 +19,20 @@ const CUTS: [&[u32]; 2] = [&[0, HEIGHT], &[0, 9, HEIGHT]];
 /// The rows of a glyph from its base line down.
 const BELOW: i64 = 4;
 
-/// Every glyph in every style, and those of mode 1 for the letters that it replaces, inside a picture
-/// and clipped at each side and corner: after each number of its rows, and after more than it has.
+/// Every glyph in both weights with every slant, and those of mode 1 for the letters that it replaces,
+/// inside a picture and clipped at each side and corner: after each number of its rows, and after more
+/// than it has.
 pub fn compare(original: &Original) -> Count {
     let mut count = Count::new("strokes after some of their rows");
     let curly = REPLACED.map(|ch| (1, ch));
     for (mode, ch) in ('\0'..='\u{100}').map(|ch| (0, ch)).chain(curly) {
-        for (bold, italic) in STYLES {
+        for (bold, slant) in slanted() {
             for (x, y) in COLUMNS.iter().flat_map(|x| BASE_LINES.map(|y| (*x, y))) {
                 let stroke = Stroke {
                     mode,
                     ch,
                     bold,
-                    italic,
+                    slant,
                     color: HALF,
                     x,
                     y,

@@ -6,24 +6,33 @@ use crate::font::picture::{Picture, Stroke};
 use crate::font::proved::{ORIGIN, PLACE_END, PLACE_MIN, SIDE_MAX};
 use crate::random::Random;
 use reference::Original;
+use reference::settings::{House, SLANT_MAX};
 
 /// Bold and italic, each on and off.
 pub const STYLES: [(bool, bool); 4] = [(false, false), (false, true), (true, false), (true, true)];
 
+/// Bold on and off, each with every slant.
+pub fn slanted() -> impl Iterator<Item = (bool, u32)> {
+    let slants = |bold| (0..=SLANT_MAX).map(move |slant| (bold, slant));
+    [false, true].into_iter().flat_map(slants)
+}
+
+/// The slant of the original's italic.
+const ITALIC: u32 = House::ORIGINAL.slant;
 const OPAQUE: [u8; 4] = [255, 255, 255, 255];
 pub const HALF: [u8; 4] = [200, 100, 50, 128];
 
-/// Every glyph in every style, whole inside a picture, opaque and half transparent.
+/// Every glyph in both weights with every slant, whole inside a picture, opaque and half transparent.
 pub fn every_glyph(original: &Original) -> Count {
     let mut count = Count::new("glyphs inside a picture");
     for ch in '\0'..='\u{100}' {
-        for (bold, italic) in STYLES {
+        for (bold, slant) in slanted() {
             for color in [OPAQUE, HALF] {
                 let stroke = Stroke {
                     mode: 0,
                     ch,
                     bold,
-                    italic,
+                    slant,
                     color,
                     x: 8,
                     y: 16,
@@ -59,7 +68,7 @@ fn side_by_side(color: [u8; 4]) -> Picture {
         mode: 0,
         ch: '_',
         bold: false,
-        italic: false,
+        slant: 0,
         color,
         x: 6 * number - 1,
         y: 0,
@@ -107,7 +116,7 @@ pub fn limits(original: &Original) -> Count {
         let picture = filled(
             16,
             16,
-            vec![solid('H', x, y), solid('H', 4, 12)],
+            vec![solid('H', x, y, SLANT_MAX), solid('H', 4, 12, ITALIC)],
             vec![0, 16],
         );
         count.check(picture.compare(original).map(|_| ()));
@@ -150,23 +159,26 @@ pub fn filled(width: u32, height: u32, strokes: Vec<Stroke>, cuts: Vec<u32>) -> 
     }
 }
 
-/// Strokes that lie over the four corners of a picture.
+/// Strokes that lie over the four corners of a picture, with the original's slant and the strongest.
 fn corners(width: u32, height: u32) -> Vec<Stroke> {
     let (right, bottom) = (width as i32 - 4, height as i32 + 4);
-    vec![
-        solid('Å', -4, 6),
-        solid('H', right, 6),
-        solid('g', -4, bottom),
-        solid('\u{100}', right, bottom),
-    ]
+    let slanted = |slant| {
+        [
+            solid('Å', -4, 6, slant),
+            solid('H', right, 6, slant),
+            solid('g', -4, bottom, slant),
+            solid('\u{100}', right, bottom, slant),
+        ]
+    };
+    [ITALIC, SLANT_MAX].into_iter().flat_map(slanted).collect()
 }
 
-fn solid(ch: char, x: i32, y: i32) -> Stroke {
+fn solid(ch: char, x: i32, y: i32, slant: u32) -> Stroke {
     Stroke {
         mode: 0,
         ch,
         bold: true,
-        italic: true,
+        slant,
         color: HALF,
         x,
         y,

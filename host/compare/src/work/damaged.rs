@@ -1,6 +1,7 @@
 //! Random calls of Open and Work with something wrong, most of them.
 
 use crate::count::Count;
+use crate::draw::frame::Frame;
 use crate::draw::settings::SIDE_MAX;
 use crate::draw::{self, refusals};
 use crate::random::Random;
@@ -52,6 +53,12 @@ fn damaged(original: &Original, random: &mut Random) -> Call {
             ask: Ask::Open { stripe_height },
         };
     }
+    work(original, random, frame, stripe_height)
+}
+
+/// A Work on a record that may be, in half of the cases, or has a counter too large.
+pub fn work(original: &Original, random: &mut Random, frame: Frame, stripe_height: u32) -> Call {
+    let settings = frame.settings;
     let total = draw::due::letters(&frame).map_or(0, |letters| {
         let segments = segments(&letters, settings.default_color);
         draw::due::strokes(original, &settings, &segments).total

@@ -11,13 +11,19 @@ use crate::wrap;
 /// Settings within their ranges, now and then of a picture with 64 stripes, and how high these are.
 pub fn settings(random: &mut Random) -> (Settings, u32) {
     if random.one_in(12) {
-        let tall = random.within_u32(1..=3);
-        let height = (STRIPES as u32 - 1) * tall + random.within_u32(1..=tall);
+        let (height, tall) = most_stripes(random);
         let width = random.within_u32(1..=40);
         return (generate::sized(random, width, height), tall);
     }
     let settings = generate::settings(random);
     (settings, stripe_height(random, settings.height))
+}
+
+/// How high a picture with 64 stripes is, and how high these are.
+pub fn most_stripes(random: &mut Random) -> (u32, u32) {
+    let tall = random.within_u32(1..=3);
+    let height = (STRIPES as u32 - 1) * tall + random.within_u32(1..=tall);
+    (height, tall)
 }
 
 /// A stripe height that a picture so high admits: small mostly, now and then all of it or more.

@@ -150,17 +150,15 @@ impl Kinds {
         }
     }
 
-    pub fn show(&self) {
+    /// Shows what jobs of this kind met.
+    pub fn show(&self, jobs: &str) {
         let met = named(KINDS.map(|(name, _)| name), self.met);
         let finished = named(FINISHES.map(|(name, _)| name), self.finished);
         println!(
-            "Works of random jobs: {}, of {} strokes, among them {met:?}",
+            "Works of {jobs}: {}, of {} strokes, among them {met:?}",
             self.works, self.strokes
         );
-        println!(
-            "random jobs finished: {}, among them {finished:?}",
-            self.jobs
-        );
+        println!("{jobs} finished: {}, among them {finished:?}", self.jobs);
     }
 }
 

@@ -3,22 +3,24 @@
 
 mod any;
 mod call;
-mod damaged;
-mod due;
-mod generate;
-mod job;
-mod kinds;
+pub mod damaged;
+pub mod due;
+pub mod generate;
+pub mod job;
+pub mod kinds;
 pub mod record;
 mod refusals;
 pub mod sample;
 pub mod speed;
-mod steps;
+pub mod steps;
 mod stopped;
 mod theirs;
 
 use crate::count::Count;
 use crate::draw;
+use crate::draw::settings::Settings;
 use crate::random::Random;
+use crate::wrap::cues::Cue;
 use job::Job;
 use kinds::Kinds;
 use reference::Original;
@@ -49,13 +51,25 @@ fn random(original: &Original, seed: u64, jobs: u64) -> Count {
         let found = random_job(original, &mut Random::new(seed ^ JOBS, number), &mut kinds);
         count.check(found.map_err(|found| format!("seed {seed}, job {number}: {found}")));
     }
-    kinds.show();
+    kinds.show("random jobs");
     count
 }
 
 fn random_job(original: &Original, random: &mut Random, kinds: &mut Kinds) -> Result<(), String> {
     let (settings, stripe_height) = generate::settings(random);
     let cue = draw::generate::cue(random);
+    done(original, random, settings, cue, stripe_height, kinds).map(|_| ())
+}
+
+/// A job of random Works, which most often finish it.
+pub fn done<'a>(
+    original: &'a Original,
+    random: &mut Random,
+    settings: Settings,
+    cue: Cue,
+    stripe_height: u32,
+    kinds: &mut Kinds,
+) -> Result<Job<'a>, String> {
     let bytes = draw::generate::buffer(random, settings.area());
     let large = bytes.len() > LARGE;
     let mut job = Job::open(original, settings, cue, bytes, stripe_height)?;
@@ -70,9 +84,10 @@ fn random_job(original: &Original, random: &mut Random, kinds: &mut Kinds) -> Re
     }
     let stripes = 0..job.stripes();
     match random.within(0..=4) {
-        0 | 1 => Ok(()),
-        _ if large && stripes.len() > 8 => Ok(()),
-        2 => job.finish(stripes.rev(), kinds),
-        _ => job.finish(stripes, kinds),
+        0 | 1 => {}
+        _ if large && stripes.len() > 8 => {}
+        2 => job.finish(stripes.rev(), kinds)?,
+        _ => job.finish(stripes, kinds)?,
     }
+    Ok(job)
 }

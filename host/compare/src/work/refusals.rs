@@ -56,7 +56,7 @@ fn bases() -> Vec<Base> {
     }
     let mut bases = Vec::new();
     for (tape, fault) in tapes {
-        for broken in [None, Some(BREAKS[4]), Some(BREAKS[10]), Some(BREAKS[14])] {
+        for broken in broken() {
             for (short, room) in [(false, ROOM), (false, ROOM - 1), (true, ROOM), (true, 0)] {
                 bases.push(Base {
                     tape: tape.clone(),
@@ -69,6 +69,12 @@ fn bases() -> Vec<Base> {
         }
     }
     bases
+}
+
+/// Nothing out of its range, or one setting of a kind; of the house settings each, just and far.
+fn broken() -> impl Iterator<Item = Option<Break>> {
+    let some = [4, 10, 14, 18, 21, 22, 25, 26, 29];
+    [None].into_iter().chain(some.map(|at| Some(BREAKS[at])))
 }
 
 impl Base {

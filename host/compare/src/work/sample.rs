@@ -3,7 +3,7 @@
 
 use crate::draw::frame::{Drawn, Frame};
 use crate::draw::sample::{self, FILLED};
-use crate::draw::settings::Settings;
+use crate::draw::settings::{SLANT_MAX, Settings};
 use crate::random::Random;
 use crate::sample::Sample;
 use crate::tape::damage;
@@ -21,6 +21,8 @@ const JOBS: Sample = Sample {
 };
 /// Of each eight jobs this one, counted from 0, has 64 stripes.
 const TALL: u64 = 3;
+/// Of the jobs that are refused this one, counted from 0, is so for its slant, and has no stripes.
+const SLANTED: u64 = 5;
 /// How many letters a cue may have, and bytes its tape.
 const LETTERS: i64 = 40;
 const SHORT: usize = 200;
@@ -118,10 +120,14 @@ fn tall(random: &mut Random, frame: &mut Frame, more: u32) -> u32 {
 }
 
 /// A job whose Open is refused, so that its Works are not done: for its stripes, which are looked at
-/// before the tape, for its tape or for its buffer.
+/// before the tape, for its tape or for its buffer; once for its slant, which is looked at before the
+/// stripes.
 fn refused(original: &Original, random: &mut Random, number: u64, index: u64) -> Job {
     let (kind, fault) = (index as usize % 5, index as u32 % 7 + 1);
-    let due = [13, 13, fault, 9, 13][kind];
+    let due = match index {
+        SLANTED => 8,
+        _ => [13, 13, fault, 9, 13][kind],
+    };
     loop {
         let (mut frame, _) = sample::caption(random, number, 1..=LETTERS, SHORT);
         if matches!(kind, 2 | 4) {
@@ -132,6 +138,9 @@ fn refused(original: &Original, random: &mut Random, number: u64, index: u64) ->
             1 => tall(random, &mut frame, 1),
             _ => stripe_height(random, frame.settings.height),
         };
+        if due == 8 {
+            frame.settings.house.slant = SLANT_MAX + 1;
+        }
         if due == 9 {
             let less = frame.settings.area().saturating_sub(1);
             frame.bytes.truncate(less);

@@ -92,7 +92,7 @@ fn small(
 }
 
 /// Does one stroke at a time on each stripe, and tries once more when nothing is left.
-fn each_stroke(
+pub fn each_stroke(
     original: &Original,
     settings: Settings,
     cue: Cue,
@@ -108,7 +108,7 @@ fn each_stroke(
 }
 
 /// Does few and many strokes on each stripe but the last, and then the rest, there all at once.
-fn long(original: &Original, settings: Settings, cue: Cue) -> Result<(), String> {
+pub fn long(original: &Original, settings: Settings, cue: Cue) -> Result<(), String> {
     let stripe_height = settings.height.div_ceil(STRIPES);
     let bytes = vec![FILLED; settings.area()];
     let mut job = Job::open(original, settings, cue, bytes, stripe_height)?;

@@ -1,7 +1,7 @@
 //! A cue as the original draws it, stopped and begun anywhere.
 
 use crate::draw::due::{self, Strokes};
-use crate::draw::settings::Settings;
+use crate::draw::settings::{House, Settings};
 use oxideav_core::{Segment, SubtitleCue};
 use reference::{Original, replaced};
 use std::ops::Range;
@@ -42,9 +42,17 @@ impl<'a> Theirs<'a> {
 
     /// The whole picture.
     pub fn whole(&self) -> Vec<u8> {
-        let mut bytes = vec![0; self.settings.area()];
-        self.original
-            .render_into(&self.settings, &self.cue, &mut bytes);
+        self.whole_at(self.settings.house)
+    }
+
+    /// The whole picture, where the house settings are these.
+    pub fn whole_at(&self, house: House) -> Vec<u8> {
+        let settings = Settings {
+            house,
+            ..self.settings
+        };
+        let mut bytes = vec![0; settings.area()];
+        self.original.render_into(&settings, &self.cue, &mut bytes);
         bytes
     }
 

@@ -57,7 +57,7 @@ draw-letter-requires c κs =
     let x = l .inv .1 in
     let far = s .pre .4 in
     let fits = subst (λ (n : ℕ). Lent n (s .args .rows)) (sym (l .inv .2)) (s .pre .0) in
-    (fits, s .pre .1, omega arith, record { x-least = omega arith; x-most = omega arith; base-least = near .base-least; base-most = near .base-most })
+    (fits, s .pre .1, omega arith, record { x-least = omega arith; x-most = omega arith; base-least = near .base-least; base-most = near .base-most }, s .pre .5)
 
 cast-x : tie.Need-cast-x Inv-loop μ-loop
 cast-x c = search needs

@@ -1,9 +1,10 @@
 use mathlib.Core.Path.{_∙_, refl, sym, ap}
-use mathlib.Core.Bool.{true}
+use Prim.Native.Nat.{_≤_}
 use native.Mathlib.Omega.{arith}
 use Rattle.font.specs.declared.BitmapFont.{BitmapFont}
 use Rattle.font.specs.Font.{tableOf}
-use Rattle.font.proofs.Rounding.{leans-back, shear-of}
+use Rattle.font.specs.Slant.{mostSlant}
+use Rattle.font.proofs.Rounding.{slant-back, shear-of}
 use Rattle.compositor.specs.Read.{strokesAt, strokesIn}
 use Rattle.compositor.specs.Outline.{outlineOf}
 use Rattle.compositor.proofs.Painting.{nothing}
@@ -61,11 +62,19 @@ default-bold-requires c κs = search needs
 table-requires-2 : tie.Need-table-requires-2
 table-requires-2 c κs = search needs
 
+-- italic letters lean as far as a pen may
+leans : (c : tie.After-table2) →
+    let start = c .before .before .before .before .before .before .before .before .before .before .before .before in
+    start .args .s .slant ≤ mostSlant
+leans c =
+    let start = c .before .before .before .before .before .before .before .before .before .before .before .before in
+    start .pre .2 .slanted
+
 new-requires : tie.Need-new-requires
-new-requires c κs = search needs
+new-requires c κs = leans c
 
 row-offsets-requires : tie.Need-row-offsets-requires
-row-offsets-requires c κs = rw (c .new .ensures) (shear-of _)
+row-offsets-requires c κs = rw (c .new .ensures) (shear-of _ (leans (c .before)))
 
 draw-each-line-requires : tie.Need-draw-each-line-requires
 draw-each-line-requires c κs =
@@ -81,7 +90,7 @@ draw-each-line-requires c κs =
       record {
         regular-is = after-table .table .ensures ∙ ap (λ (f : BitmapFont). tableOf (f .bold)) (after-default-regular .default-regular .ensures);
         bold-is = after-table2 .table2 .ensures ∙ ap (λ (f : BitmapFont). tableOf (f .bold)) (after-default-bold .default-bold .ensures);
-        slanted-is = after-row-offsets .row-offsets .ensures ∙ rw (after-new .new .ensures, leans-back true);
+        slanted-is = after-row-offsets .row-offsets .ensures ∙ rw (after-new .new .ensures, slant-back _ (leans after-table2));
       },
       s .pre .1,
       s .pre .2,

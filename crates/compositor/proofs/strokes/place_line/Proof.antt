@@ -7,10 +7,12 @@ use Rattle.compositor.specs.Outline.{outlineOf}
 use Rattle.compositor.specs.Order.{lineStrokes}
 use Rattle.compositor.specs.Read.{lettersAt}
 use Rattle.wrap.specs.Laid.{columnsOn}
+use Rattle.wrap.proofs.InkCounts.{inked-few}
 use Rattle.compositor.proofs.LinesOff.{line-around, missing}
 use Rattle.compositor.proofs.Painting.{missed}
 use Rattle.compositor.proofs.ReadBack.{letters-length}
-use Rattle.compositor.proofs.Total.{line-length, inked-few}
+use Rattle.compositor.proofs.Total.{line-length}
+use Rattle.compositor.proofs.Ranges.{outline-small}
 use Rattle.compositor.proofs.WrappedLines.{total-small}
 use borrow.Author.Needs.{needs}
 use Rattle.compositor.proofs.strokes.place_line.Statement.{statement}
@@ -42,7 +44,7 @@ mul-strokes c =
     let some = inked-few (lettersAt (a .ws .now) (a .span .first) (a .span .letters)) in
     let letters = letters-length (a .ws .now) (a .span .first) (a .span .letters) in
     let each = ap (λ (m : ℕ). n * m) (after-letter-strokes .letter-strokes .ensures .0) in
-    let small = total-small n (outlineOf (a .s)) (omega arith) (omega arith) in
+    let small = total-small n (outlineOf (a .s)) (omega arith) (outline-small (a .s) (start .pre .4)) in
     omega arith
 
 outline-requires : tie.Need-outline-requires
@@ -61,6 +63,7 @@ returns c =
     let start = after-letter-strokes .before .before .before in
     let a = start .args in
     let outline = after-outline .outline .ensures in
+    let small = outline-small (a .s) (start .pre .4) in
     let off = rw (outline .0) at (sym (c .before .before .is-off .ensures) ∙ c .before .if1 .taken) in
     rw (c .past .ensures)
     (missing (a .rows) (a .y) (a .y) (outlineOf (a .s)) (start .pre .6) (omega arith) off _ _ _ (strokes-are after-letter-strokes) (line-around (a .s) _ (a .y) _))
@@ -90,7 +93,7 @@ draw-line-requires c κs =
     let x = c .before .line-start .ensures in
     let left = x .1 in
     let right = x .2 in
-    (start .pre .0, start .pre .1, start .pre .2, record { x-least = omega arith; x-most = omega arith; base-least = start .pre .6; base-most = start .pre .7 }, right)
+    (start .pre .0, start .pre .1, start .pre .2, record { x-least = omega arith; x-most = omega arith; base-least = start .pre .6; base-most = start .pre .7 }, right, start .pre .4)
 
 same-length : tie.Need-same-length
 same-length c = search needs

@@ -1,5 +1,9 @@
 -- `Pen::new` meets its contract.
-use lib.Ieee.{ofBits, ofInt, div, inFloat}
+use mathlib.Core.Path.{refl}
+use Prim.Native.Nat.{_^_}
+use native.Mathlib.Omega.{arith}
+use lib.Dec.{le→leb}
+use lib.Ieee.{ofBits, ofInt, mul, div, inFloat}
 use Rattle.font.specs.Shear.{shearOf}
 use Rattle.font.proofs.Pen.new.Statement.{statement}
 use Rattle.font.proofs.Pen.new.Tie as tie
@@ -8,13 +12,13 @@ int-to-float-shear : tie.Need-int-to-float-shear
 unfolding inFloat
 int-to-float-shear c = tt
 
-returns : tie.Need-returns
-unfolding ofBits ofInt div shearOf
-returns c = rw (c .if1 .taken)
+int-to-float-shear-2 : tie.Need-int-to-float-shear-2
+unfolding inFloat
+int-to-float-shear-2 c = le→leb (c .before .args .slant) (2 ^ 24) (omega arith)
 
-returns-2 : tie.Need-returns-2
-unfolding ofBits ofInt shearOf
-returns-2 c = rw (c .if1 .left)
+returns : tie.Need-returns
+unfolding ofBits ofInt mul div shearOf
+returns c = refl
 
 pub new-spec : {M : Type 1} → statement M
-new-spec = tie.close (tie.spec int-to-float-shear returns returns-2)
+new-spec = tie.close (tie.spec int-to-float-shear int-to-float-shear-2 returns)

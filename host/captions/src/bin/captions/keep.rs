@@ -41,12 +41,15 @@ fn line(settings: &Settings) -> String {
         outline_px,
         align,
         glyph_mode,
+        side_margin_px,
+        slant,
+        outline_cap_px,
     } = settings;
     let [letters, outline] = [default_color, outline_color].map(|color| u32::from_be_bytes(*color));
     let (align, glyph_mode) = (*align as u32, *glyph_mode as u32);
     format!(
         "{width} {height} {letters:08X} {outline:08X} {line_height_px} {bottom_margin_px} \
-         {outline_px} {align} {glyph_mode}"
+         {outline_px} {align} {glyph_mode} {side_margin_px} {slant} {outline_cap_px}"
     )
 }
 

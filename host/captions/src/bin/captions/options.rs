@@ -1,7 +1,10 @@
 //! The options of `captions burn`, and of `captions keep`, which has the settings alone.
 
 use crate::args::Choice;
-use captions::{Align, GlyphMode, LINE_HEIGHT_MAX, SIDE_MAX, Settings};
+use captions::{
+    Align, GlyphMode, LINE_HEIGHT_MAX, OUTLINE_CAP_MAX, SIDE_MARGIN_MAX, SIDE_MAX, SLANT_MAX,
+    Settings,
+};
 
 const COLOR: &str = "a color in hexadecimal, RRGGBB or RRGGBBAA";
 
@@ -28,12 +31,18 @@ impl Options {
             width,
             height,
             line_height_px,
+            side_margin_px,
+            slant,
+            outline_cap_px,
             ..
         } = self.settings;
         let ranges = [
             ("--width", width, SIDE_MAX),
             ("--height", height, SIDE_MAX),
             ("--line-height", line_height_px, LINE_HEIGHT_MAX),
+            ("--side-margin", side_margin_px, SIDE_MARGIN_MAX),
+            ("--slant", slant, SLANT_MAX),
+            ("--outline-cap", outline_cap_px, OUTLINE_CAP_MAX),
         ];
         let outside = ranges.into_iter().filter(|(_, value, most)| value > most);
         outside
@@ -43,9 +52,9 @@ impl Options {
 }
 
 /// How many of the choices are settings; those behind them say how a frame is drawn.
-pub const SETTINGS: usize = 9;
+pub const SETTINGS: usize = 12;
 
-pub const CHOICES: [Choice<Options>; 11] = [
+pub const CHOICES: [Choice<Options>; 14] = [
     Choice {
         name: "--width",
         value: "PIXELS",
@@ -92,7 +101,7 @@ pub const CHOICES: [Choice<Options>; 11] = [
         name: "--outline",
         value: "PIXELS",
         takes: "a number from 0 to 4294967295",
-        more: "over 2 it counts as 2; 1 by default",
+        more: "over --outline-cap it counts as that; 1 by default",
         set: |options, value| number(&mut options.settings.outline_px, value),
     },
     Choice {
@@ -108,6 +117,27 @@ pub const CHOICES: [Choice<Options>; 11] = [
         takes: "0 or 1",
         more: "1 draws ‘ ’ “ ” – — as ' ' \" \" - -; 0 by default",
         set: |options, value| glyph_mode(&mut options.settings.glyph_mode, value),
+    },
+    Choice {
+        name: "--side-margin",
+        value: "PIXELS",
+        takes: "a number from 0 to 255",
+        more: "from the side a line is aligned to; 8 by default",
+        set: |options, value| number(&mut options.settings.side_margin_px, value),
+    },
+    Choice {
+        name: "--slant",
+        value: "EIGHTHS",
+        takes: "a number from 0 to 8",
+        more: "of a cell's width, that italic leans; 2 by default",
+        set: |options, value| number(&mut options.settings.slant, value),
+    },
+    Choice {
+        name: "--outline-cap",
+        value: "PIXELS",
+        takes: "a number from 0 to 4",
+        more: "the most that --outline counts as; 2 by default",
+        set: |options, value| number(&mut options.settings.outline_cap_px, value),
     },
     Choice {
         name: "--stripes",
