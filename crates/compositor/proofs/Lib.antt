@@ -1,6 +1,6 @@
 -- Document 01's cases; laws of strokes and of the definitions; what each step of the code comes to; how far the call's
 -- outcome goes.
-pub mod Cases  -- document 01's cases a to l in one table, letters without ink, and some more, by computation
+pub mod Cases  -- document 01's cases a to l in one table, letters without ink, other house settings, and some more, by computation
 pub mod Painting  -- strokes on lent rows: one list after the other, and a window on them
 pub mod Outlines  -- the outline: its displacements one by one, and how many they are
 pub mod Ranges  -- settings within their range, and the bounds of positions
