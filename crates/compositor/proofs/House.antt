@@ -1,6 +1,6 @@
 -- What side margin, slant and outline cap change and what they leave: the claim of the part House.
 use mathlib.Core.Path.{_≡_, refl, ap, ap₂}
-use mathlib.Core.Bool.{Bool, true, false, cond}
+use mathlib.Core.Bool.{cond}
 use mathlib.Core.List.{[]}
 use Prim.Native.Nat.{ℕ, _+_, _-_, _*_, min}
 use native.Mathlib.Omega.{arith}
@@ -8,6 +8,7 @@ use borrow.Author.Tests.{eq-eqb}
 use Rattle.font.specs.Font.{cellW, cellH, bearingY}
 use Rattle.font.specs.Slant.{nearest, unmoved, rowOffset, rowOffsets}
 use Rattle.font.specs.Ink.{hasInk}
+use Rattle.font.proofs.Columns.{cond-same}
 use Rattle.tape.specs.Runs.{Letter}
 use Rattle.compositor.specs.declared.Settings.{Settings}
 use Rattle.compositor.specs.Layout.{lineStart}
@@ -31,11 +32,7 @@ upright : (margin cap : ℕ) (s : Settings) (l : Letter) (x base : ℕ)
     → letterStrokes (withHouse margin 0 cap s) l x base ≡ letterStrokes (withHouse margin 0 cap s) (uprightLetter l) x base
 upright margin cap s l x base =
     ap (λ (slant : ℕ). cond (hasInk (letterRows s l)) (glyphStrokes (letterRows s l) (rowOffsets slant) (s .«outline_color») (colorOf (l .style)) (min (s .«outline_px») cap) x base) [])
-    (either (l .style .italic))
-  where
-    either : (italic : Bool) → _≡_ {A = ℕ} (cond italic 0 0) 0
-    either true = refl
-    either false = refl
+    (cond-same {A = ℕ} (l .style .italic) 0)
 
 pub house-settings : HouseSettings
 house-settings =
