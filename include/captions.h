@@ -5,13 +5,14 @@
  * whole; captions_open and captions_work draw it in stripes, a budget of strokes at a time.
  *
  * Every call is total: it takes any numbers, bytes and lengths, and returns. A length is that of
- * the buffer before it, in bytes; one of length 0 may be NULL, settings and a record may not. What
- * one call is lent must not overlap. Settings and a record are aligned as a uint32_t is; buffers
- * need no alignment. No call keeps anything, allocates or uses errno, so any number of threads may
- * call, each with its own buffers. A call needs at most CAPTIONS_STACK_BYTES of stack.
+ * the buffer before it, in bytes; one of length 0 may be NULL, settings, stripes and a record may
+ * not. What one call is lent must not overlap. Settings, stripes and a record are aligned as a
+ * uint32_t is; buffers need no alignment. No call keeps anything, allocates or uses errno, so any
+ * number of threads may call, each with its own buffers. A call needs at most CAPTIONS_STACK_BYTES
+ * of stack.
  *
- * The platform. x86-64 Linux, with the System V calling convention. The numbers of settings and
- * records are in the machine's byte order, little endian.
+ * The platform. x86-64 Linux, with the System V calling convention. The numbers of settings,
+ * stripes and records are in the machine's byte order, little endian.
  *
  * Answers. An answer has two halves of 32 bits. The upper half is 0 and the lower is what the call
  * answers; or the upper is a refusal's number and the lower its place. See captions_refused,
@@ -28,6 +29,11 @@
  * The picture. A buffer that begins with width * height * 4 bytes: rows from the top, in each the
  * pixels from the left, of each the bytes red, green, blue, alpha. The bytes after the picture
  * never change, and a refused call changes no byte of the buffer.
+ *
+ * Stripes. The picture's rows from the top, in at most CAPTIONS_STRIPES_MAX parts of any heights.
+ * Each has an end, which is the first row below it: a stripe has the rows from the end of the one
+ * before it, or from row 0, up to its own end, not included. So the ends rise strictly from a first
+ * one above 0, and the last is the height; a picture of height 0 has no stripe.
  *
  * Strokes. A letter on a line that has ink is one stroke, and 8 more for each pixel of its outline,
  * up to outline_cap. A letter without ink has none: spaces and controls, code points 00 to 20 and
@@ -50,9 +56,13 @@ extern "C" {
  * Until version 3 letters without ink had strokes too, so that a record of then is not to be worked
  * on with this library: its job is opened anew. Until version 4 settings ended with glyph_mode;
  * this library reads three numbers more, so that a program of then is compiled anew. They were 8, 2
- * and 2 then, and where they still are, a record made with version 3 stays good.
+ * and 2 then, and where they still are, a record made with version 3 stays good. Until version 5
+ * stripes were of one height, but for the last: Open took that height, and a record had it first
+ * and then the counters. A program of then is compiled anew. A record of then becomes one of now:
+ * its count and ends are those that captions_stripes_of_height gives for the picture's height and
+ * that one, and its counters stay.
  */
-#define CAPTIONS_VERSION 4
+#define CAPTIONS_VERSION 5
 
 #define CAPTIONS_TAPE_MAX 16384       /* bytes of a tape */
 #define CAPTIONS_WORKSPACE_MIN 65536  /* bytes of a workspace */
@@ -117,18 +127,26 @@ typedef struct {
     uint32_t outline_cap;   /* pixels: at most CAPTIONS_OUTLINE_CAP_MAX; 0 is no outline */
 } captions_settings;
 
+/* How a picture is cut into stripes, as Open takes it. See captions_stripes_of_height. */
+typedef struct {
+    uint32_t count;                      /* of stripes: at most CAPTIONS_STRIPES_MAX */
+    uint32_t ends[CAPTIONS_STRIPES_MAX]; /* of each, from the top; from count on never read */
+} captions_stripes;
+
 /*
  * How far a job is: what is stored with its picture, so that any process can go on with it. Of each
- * stripe, from the top, it counts the strokes that are done; past the last stripe it holds zeros.
+ * stripe, from the top, it has the end, and counts the strokes that are done.
  */
 typedef struct {
-    uint32_t stripe_height; /* rows: at least 1, and so many that CAPTIONS_STRIPES_MAX are enough */
-    uint32_t counters[CAPTIONS_STRIPES_MAX]; /* each at most T */
+    uint32_t count;                          /* of stripes, as Open was handed it */
+    uint32_t ends[CAPTIONS_STRIPES_MAX];     /* Open leaves 0 from count on; Work never reads it */
+    uint32_t counters[CAPTIONS_STRIPES_MAX]; /* each at most T, and from count on 0 */
 } captions_record;
 
 /* Compiles only where the structs are numbers in a row, without padding. */
 typedef char captions_settings_are_12_numbers[sizeof(captions_settings) == 48 ? 1 : -1];
-typedef char captions_record_is_65_numbers[sizeof(captions_record) == 260 ? 1 : -1];
+typedef char captions_stripes_are_65_numbers[sizeof(captions_stripes) == 260 ? 1 : -1];
+typedef char captions_record_is_129_numbers[sizeof(captions_record) == 516 ? 1 : -1];
 
 /*
  * Usual settings: white letters with a black outline of a pixel, opaque; lines at the center; no
@@ -150,6 +168,27 @@ static inline captions_settings captions_settings_usual(uint32_t width, uint32_t
     usual.slant = 2;
     usual.outline_cap = 2;
     return usual;
+}
+
+/*
+ * Stripes of one height for a picture of this height; the last may be lower. A stripe height of 0
+ * gives one stripe that ends at row 0; one that makes more than CAPTIONS_STRIPES_MAX stripes gives
+ * their count, and as many ends as there is room for. Open refuses both.
+ */
+static inline captions_stripes captions_stripes_of_height(uint32_t height, uint32_t stripe_height)
+{
+    captions_stripes made;
+    uint32_t end = 0;
+    made.count = 1;
+    if (stripe_height > 0) {
+        made.count = height / stripe_height + (height % stripe_height > 0 ? 1 : 0);
+    }
+    for (uint32_t stripe = 0; stripe < CAPTIONS_STRIPES_MAX; stripe++) {
+        uint32_t left = height - end; /* so that no sum passes the height */
+        end += stripe_height < left ? stripe_height : left;
+        made.ends[stripe] = stripe < made.count ? end : 0;
+    }
+    return made;
 }
 
 /*
@@ -186,13 +225,14 @@ enum captions_refusal {
     CAPTIONS_TAPE_TOO_LONG = 10,
     /* The workspace has under 65536 bytes. */
     CAPTIONS_WORKSPACE_TOO_SHORT = 11,
-    /* The picture has no such stripe. */
+    /* The picture has no such stripe. Its number is not below the record's count. */
     CAPTIONS_NO_SUCH_STRIPE = 12,
-    /* A stripe height of 0, or one that gives more than 64 stripes. It is Open's own, or stands in
-       Work's record. */
+    /* More than 64 stripes, or ends that do not rise strictly from above 0 to the height. They are
+       Open's own, or stand in Work's record. A picture of height 0 has no stripe, and every other
+       has at least one. */
     CAPTIONS_STRIPES_UNFIT = 13,
-    /* A counter is over the number of strokes, or not 0 past the last stripe. The counter is one of
-       the record's, and the number T. */
+    /* A counter is over the number of strokes, or not 0 past the last stripe. The counter is any of
+       the record's 64, the number T, and the last stripe that of the record's count. */
     CAPTIONS_COUNTERS_UNSOUND = 14
 };
 
@@ -242,9 +282,9 @@ uint64_t captions_draw(const captions_settings *settings,
                        uint8_t *picture, size_t picture_len);
 
 /*
- * Open: begins a job. Clears the picture and answers T. Stripes are stripe_height rows high, from
- * the top; the last may be lower. The record is written only: it then holds the stripe height and
- * 64 counters of 0.
+ * Open: begins a job in these stripes. Clears the picture and answers T. The record is written
+ * only: it then holds the count and the ends of the stripes, 0 in the entries that are not used,
+ * and 64 counters of 0.
  *
  * A refusal leaves the picture, and writes zeros to all of the record.
  */
@@ -252,13 +292,13 @@ uint64_t captions_open(const captions_settings *settings,
                        const uint8_t *tape, size_t tape_len,
                        uint8_t *workspace, size_t workspace_len,
                        uint8_t *picture, size_t picture_len,
-                       uint32_t stripe_height,
+                       const captions_stripes *stripes,
                        captions_record *record);
 
 /*
  * Work: does the next strokes on the rows of a stripe, counted from 0: as many as the budget, any
  * number, or as are left. Answers how many they were; the stripe's counter grows by that, and
- * nothing else of the record or of the picture changes.
+ * nothing else of the record or of the picture changes; entries that are not used stay too.
  *
  * Settings and tape are those of Open, picture and record as the last call left them, in this
  * process or in another. Once every stripe's counter is T, the picture is what Draw leaves. With a

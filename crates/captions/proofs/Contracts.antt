@@ -13,19 +13,19 @@ use Rattle.captions.proofs.captions_open.Reads as open-reads
 use Rattle.captions.proofs.captions_work.Kinds as work-kinds
 use Rattle.captions.proofs.captions_work.Reads as work-reads
 
--- what is given: settings, tape, workspace, picture, stripe height and record; at exit the workspace, the picture and
+-- what is given: settings, tape, workspace, picture, stripes and record; at exit the workspace, the picture and
 -- the record
-module _ (κs : Lfts 5) (a : Dens κs open-kinds.ps) where
+module _ (κs : Lfts 6) (a : Dens κs open-kinds.ps) where
   open-asks : open-reads.Pre κs a ≡ Unit {0}
   open-asks = refl
 
-  open-tells : (r : ℕ) (x : AtExit (endedOf 5 open-kinds.ps open-kinds.r) κs)
+  open-tells : (r : ℕ) (x : AtExit (endedOf 6 open-kinds.ps open-kinds.r) κs)
       → open-reads.Post κs a r x
       ≡ OpenAnswered (now (a .0)) (now (a .1 .0)) (now (a .1 .1 .0)) (now (x .1 .1 .0)) (now (a .1 .1 .1 .0)) (now (x .1 .1 .1 .0))
-      (a .1 .1 .1 .1 .0) (now (x .1 .1 .1 .1 .1 .0)) r
+      (now (a .1 .1 .1 .1 .0)) (now (x .1 .1 .1 .1 .1 .0)) r
   open-tells r x = refl
 
--- the same with the record before it too, the stripe and the budget in place of the stripe height
+-- the same with the record before it too, the stripe and the budget in place of the stripes
 module _ (κs : Lfts 5) (a : Dens κs work-kinds.ps) where
   work-asks : work-reads.Pre κs a ≡ Unit {0}
   work-asks = refl

@@ -1,26 +1,26 @@
--- A job record as 65 numbers: loops that copy its counters.
-use mathlib.Core.Path.{_≡_, ap}
-use mathlib.Core.List.{List, [], _∷_, append-nil}
-use Prim.Native.Nat.{ℕ, _+_, _≤_, _<_}
-use native.Mathlib.Numerals.{add-one}
+-- A job record as 129 numbers, there and back.
+use mathlib.Core.Path.{_≡_, ap, ap₂}
+use mathlib.Core.List.{List, _∷_, _++_, append-nil}
+use Prim.Native.Nat.{ℕ}
 use native.Mathlib.Omega.{arith}
-use lib.ListN.{length, getD, set, drop, length-drop, drop-of-length-le}
-use lib.Seq.{paste, paste-suc, take-all}
+use lib.ListN.{length, take, drop, drop-of-length-le}
+use lib.Seq.{take-at, drop-at}
+use Rattle.job.specs.declared.JobRecord.{JobRecord}
+use Rattle.job.specs.Stripes.{mostStripes}
+use Rattle.captions.specs.Interface.{recordOf}
 
--- one more is copied
-pub copied : (d : List ℕ) (at : ℕ) (s : List ℕ) (k i v : ℕ) → at + k < length d → k < length s → i ≡ at + k → v ≡ getD s k 0
-    → set (paste d at s k) i v ≡ paste d at s (k + 1)
-copied d at s k i v h l e w = rw (e, w, add-one) (paste-suc d at s k 0 h l)
+abbrev pub wordsOf : JobRecord → List ℕ
+wordsOf job = job .stripes .«stripe_count» ∷ (job .stripes .«end_rows» ++ job .counters)
 
--- all are copied: out of 65 numbers, behind the first
-pub taken : (d words : List ℕ) (k : ℕ) → length d ≡ 64 → length words ≡ 65 → 64 ≤ k → paste d 0 (drop 1 words) k ≡ drop 1 words
-taken d words k h l e =
-    let n = length-drop 1 words in
-    let none : 0 + k ≡ k = omega arith in
-    rw (take-all k (drop 1 words) (omega arith), none, drop-of-length-le d {i = k} (omega arith)) (append-nil (drop 1 words))
+-- the counters are put behind the ends, over as many numbers
+pub behind : (ends counters rest : List ℕ) → length ends ≡ mostStripes → length rest ≡ mostStripes
+    → take mostStripes (ends ++ rest) ++ (counters ++ drop mostStripes (drop mostStripes (ends ++ rest))) ≡ ends ++ counters
+behind ends counters rest long more =
+    rw (take-at ends rest mostStripes long, drop-at ends rest mostStripes long, drop-of-length-le rest {i = mostStripes} (omega arith))
+    (ap (λ (l : List ℕ). ends ++ l) (append-nil counters))
 
--- and into them
-pub put : (words cs : List ℕ) (k v : ℕ) → length words ≡ 65 → length cs ≡ 64 → 64 ≤ k → paste (set words 0 v) 1 cs k ≡ v ∷ cs
-put (w ∷ words) cs k v h l e =
-    rw (take-all k cs (omega arith), drop-of-length-le (v ∷ words) {i = 1 + k} (omega arith)) (ap (λ (r : List ℕ). v ∷ r) (append-nil cs))
-put [] cs k v h l e = absurd (omega arith)
+pub there-and-back : (job : JobRecord) → length (job .stripes .«end_rows») ≡ mostStripes → recordOf (wordsOf job) ≡ job
+there-and-back job long =
+    ap₂ (λ (ends counters : List ℕ). record { stripes = record { «stripe_count» = job .stripes .«stripe_count»; «end_rows» = ends }; counters = counters })
+    (take-at (job .stripes .«end_rows») (job .counters) mostStripes long)
+    (drop-at (job .stripes .«end_rows») (job .counters) mostStripes long)

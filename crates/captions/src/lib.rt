@@ -3,9 +3,12 @@
 // A call answers with one number: its answer, or a refusal, the refusal's number times 2^32 and its
 // place. No answer reaches 2^32.
 ghost use mathlib.Core.Path.{_≡_};
-ghost use Rattle.captions.specs.Interface.{settingsOf, recordOf, wordsOf, WrapAnswered, DrawAnswered, OpenAnswered, WorkAnswered};
+ghost use lib.ListN.{length};
+ghost use Rattle.job.specs.Stripes.{mostStripes};
+ghost use Rattle.captions.specs.Interface.{settingsOf, stripesOf, recordOf, WrapAnswered, DrawAnswered, OpenAnswered, WorkAnswered};
 use compositor::Settings;
 use job::JobRecord;
+use job::Stripes;
 
 // The call Wrap: answers how many lines the tape makes. The workspace then begins with each line's
 // letters and columns, two bytes each, high byte first, and then the numbers of the letters on lines.
@@ -53,53 +56,89 @@ pub extern "C" fn captions_draw(
     compositor::render_into(settings_of(*settings), tape, workspace, picture).packed()
 }
 
-const COUNTERS: usize = 64;
+const STRIPES: usize = 64;
 
-// A job record from numbers: the stripe height, and then the counters.
-fn record_of(words: [u32; 65]) -> JobRecord
-    ensures { λ r. ⌜ r ≡ recordOf words ⌝ }
+// The numbers of a part, one for each stripe.
+fn taken(part: &[u32]) -> [u32; 64]
+    requires { ⌜ length (now part) ≡ mostStripes ⌝ }
+    ensures { λ r. ⌜ r ≡ now (part .entry) ⌝ }
 {
-    let mut counters = [0; 64];
+    let mut numbers = [0; 64];
     let mut k = 0;
-    while k < COUNTERS {
-        counters[k] = words[k + 1];
+    while k < STRIPES {
+        numbers[k] = part[k];
         k += 1;
     }
-    JobRecord {
-        stripe_height: words[0],
-        counters,
+    numbers
+}
+
+// Puts numbers into a part, one for each stripe.
+fn put(part: &mut [u32], numbers: [u32; 64])
+    requires { ⌜ length (now part) ≡ mostStripes ⌝ }
+    ensures { λ _. ⌜ now (part .exit) ≡ numbers ⌝ }
+{
+    let mut k = 0;
+    while k < STRIPES {
+        part[k] = numbers[k];
+        k += 1;
     }
 }
 
-fn words_of(job: JobRecord) -> [u32; 65]
-    ensures { λ r. ⌜ r ≡ wordsOf job ⌝ }
+// Stripes from numbers: the count, and then the end rows.
+fn stripes_of(words: [u32; 65]) -> Stripes
+    ensures { λ r. ⌜ r ≡ stripesOf words ⌝ }
 {
-    let mut words = [0; 65];
-    words[0] = job.stripe_height;
-    let mut k = 0;
-    while k < COUNTERS {
-        words[k + 1] = job.counters[k];
-        k += 1;
+    let ends = taken(&words[1..65]);
+    Stripes {
+        stripe_count: words[0],
+        end_rows: ends,
     }
+}
+
+// A job record from numbers: its stripes, and then the counters.
+fn record_of(words: [u32; 129]) -> JobRecord
+    ensures { λ r. ⌜ r ≡ recordOf words ⌝ }
+{
+    let ends = taken(&words[1..65]);
+    let stripes = Stripes {
+        stripe_count: words[0],
+        end_rows: ends,
+    };
+    let counters = taken(&words[65..129]);
+    JobRecord { stripes, counters }
+}
+
+// The numbers that stand for a job record.
+fn words_of(job: JobRecord) -> [u32; 129]
+    ensures { λ r. ⌜ recordOf r ≡ job ⌝ }
+{
+    let stripes = job.stripes;
+    let ends = stripes.end_rows;
+    let counters = job.counters;
+    let mut words = [0; 129];
+    words[0] = stripes.stripe_count;
+    put(&mut words[1..65], ends);
+    put(&mut words[65..129], counters);
     words
 }
 
-// The call Open: zeroes the picture and gives the record of a job in stripes of so many rows. Answers
-// how many strokes the tape's caption has. A refusal leaves the picture as it is, and gives zeros.
+// The call Open: zeroes the picture and gives the record of a job in such stripes. Answers how many
+// strokes the tape's caption has. A refusal leaves the picture as it is, and gives zeros.
 #[no_mangle]
 pub extern "C" fn captions_open(
     settings: &[u32; 12],
     tape: &[u8],
     workspace: &mut [u8],
     picture: &mut [u8],
-    stripe_height: u32,
-    record: &mut [u32; 65],
+    stripes: &[u32; 65],
+    record: &mut [u32; 129],
 ) -> u64
     ensures { λ r. ⌜ OpenAnswered (now (settings .entry)) (now (tape .entry)) (now (workspace .entry)) (now (workspace .exit))
-        (now (picture .entry)) (now (picture .exit)) «stripe_height» (now («record» .exit)) r ⌝ }
+        (now (picture .entry)) (now (picture .exit)) (now (stripes .entry)) (now («record» .exit)) r ⌝ }
 {
     let s = settings_of(*settings);
-    let opened = job::open(s, tape, workspace, picture, stripe_height);
+    let division = stripes_of(*stripes);
+    let opened = job::open(s, tape, workspace, picture, division);
     let given = opened.job;
     *record = words_of(given);
     let answer = opened.answer;
@@ -114,7 +153,7 @@ pub extern "C" fn captions_work(
     tape: &[u8],
     workspace: &mut [u8],
     picture: &mut [u8],
-    record: &mut [u32; 65],
+    record: &mut [u32; 129],
     stripe: u32,
     budget: u32,
 ) -> u64

@@ -42,36 +42,36 @@ module _ (s : Settings) (ts : List Stroke) (ws picture : List ℕ) (job : JobRec
   c = counterOf job k
 
   pub did-step : (m : ℕ) → c ≤ length ts → m ≡ min n (length ts - c) → {picture' : List ℕ}
-      → picture' ≡ onStripe s (divisionOf job) k (slice c (c + m) ts) picture
+      → picture' ≡ onStripe s (divisionOf (job .stripes)) k (slice c (c + m) ts) picture
       → Did s job k (accepted (stepStrokes job k n ts)) ws picture picture' (record { answer = Answer.Accepted m; job = withCounter job k (c + m) })
   did-step m few e p =
       let count : m ≡ length (stepStrokes job k n ts) = e ∙ sym (strokes-done ts c n) in
       accepts refl count
       (ap₂ (λ (a : List ℕ) (b : JobRecord). (a, b))
-      (p ∙ ap (λ (us : List Stroke). onStripe s (divisionOf job) k us picture) (strokes-from ts c n m few e))
+      (p ∙ ap (λ (us : List Stroke). onStripe s (divisionOf (job .stripes)) k us picture) (strokes-from ts c n m few e))
       (ap (λ (x : ℕ). withCounter job k (c + x)) count))
       tt
 
-  pub unsound : countersUnsound s (divisionOf job) (length ts) 0 (job .counters) ≡ true
-      → Did s job k (stripeCall s job k n ts) ws picture picture (record { answer = Answer.Refused 14 0; job = job })
+  pub unsound : countersUnsound (divisionOf (job .stripes)) (length ts) 0 (job .counters) ≡ true
+      → Did s job k (stripeCall job k n ts) ws picture picture (record { answer = Answer.Refused 14 0; job = job })
   unfolding stripeCall
   unsound e = refuses (rw e) (λ _. refl)
 
-  module _ (sound : countersUnsound s (divisionOf job) (length ts) 0 (job .counters) ≡ false) where
-    pub no-stripe : hasStripe s (divisionOf job) k ≡ false
-        → Did s job k (stripeCall s job k n ts) ws picture picture (record { answer = Answer.Refused 12 0; job = job })
+  module _ (sound : countersUnsound (divisionOf (job .stripes)) (length ts) 0 (job .counters) ≡ false) where
+    pub no-stripe : hasStripe (divisionOf (job .stripes)) k ≡ false
+        → Did s job k (stripeCall job k n ts) ws picture picture (record { answer = Answer.Refused 12 0; job = job })
     unfolding stripeCall
     no-stripe e = refuses (rw (sound, e)) (λ _. refl)
 
-    pub did-work : hasStripe s (divisionOf job) k ≡ true → {picture' : List ℕ} {r : JobAnswer}
-        → Did s job k (accepted (stepStrokes job k n ts)) ws picture picture' r → Did s job k (stripeCall s job k n ts) ws picture picture' r
+    pub did-work : hasStripe (divisionOf (job .stripes)) k ≡ true → {picture' : List ℕ} {r : JobAnswer}
+        → Did s job k (accepted (stepStrokes job k n ts)) ws picture picture' r → Did s job k (stripeCall job k n ts) ws picture picture' r
     unfolding stripeCall
     did-work there d = comes-to (rw (sound, there)) d
 
   -- after 14 and 12 the workspace is free
-  stripe-leaves : (before after : List ℕ) → Workspace free before after (stripeCall s job k n ts)
+  stripe-leaves : (before after : List ℕ) → Workspace free before after (stripeCall job k n ts)
   unfolding stripeCall keepsWorkspace
-  stripe-leaves before after = by (countersUnsound s (divisionOf job) (length ts) 0 (job .counters)) (hasStripe s (divisionOf job) k)
+  stripe-leaves before after = by (countersUnsound (divisionOf (job .stripes)) (length ts) 0 (job .counters)) (hasStripe (divisionOf (job .stripes)) k)
     where
       by : (a b : Bool) → Workspace free before after (refuseIf a 14 0 (refuseIf (not b) 12 0 (accepted (stepStrokes job k n ts))))
       by true b = λ e. absurd (true≢false (sym e))
@@ -82,16 +82,16 @@ module _ (s : Settings) (ts : List Stroke) (ws picture : List ℕ) (job : JobRec
 
 module _ (s : Settings) (tape : Tapes) (ws ws' picture : List ℕ) (job : JobRecord) (k n : ℕ) where
   abbrev opens : Outcome (List Stroke)
-  opens = openCall s (length ws) (length picture) tape (divisionOf job)
+  opens = openCall s (length ws) (length picture) tape (divisionOf (job .stripes))
 
   pub not-worked : {number place : ℕ} → opens ≡ refused number place → (keepsWorkspace number ≡ true → ws' ≡ ws)
       → Worked s tape ws ws' picture picture job k n (record { answer = Answer.Refused number place; job = job })
   unfolding workCall
-  not-worked e l = refuses (ap (andThen (stripeCall s job k n)) e) l
+  not-worked e l = refuses (ap (andThen (stripeCall job k n)) e) l
 
   pub worked-on : {picture' : List ℕ} {ts : List Stroke} {r : JobAnswer} {own : List ℕ} → opens ≡ accepted ts
-      → Did s job k (stripeCall s job k n ts) own picture picture' r → Worked s tape ws ws' picture picture' job k n r
+      → Did s job k (stripeCall job k n ts) own picture picture' r → Worked s tape ws ws' picture picture' job k n r
   unfolding workCall
   worked-on {ts = ts} e d =
-      comes-to (ap (andThen (stripeCall s job k n)) e)
+      comes-to (ap (andThen (stripeCall job k n)) e)
       (record { answers = d .answers; changes = d .changes; leaves = stripe-leaves s ts ws picture job k n ws ws' })

@@ -7,23 +7,24 @@ use denote.Ref.{now}
 use denote.Triple.Clauses.{AtExit}
 use borrow.Fn.Kinds.{Dens, endedOf}
 use Rattle.job.specs.declared.JobAnswer.{JobAnswer}
+use Rattle.job.specs.Stripes.{divisionOf}
 use Rattle.job.specs.Worked.{Opened, Worked}
 use Rattle.job.proofs.open.Kinds as open-kinds
 use Rattle.job.proofs.open.Reads as open-reads
 use Rattle.job.proofs.work.Kinds as work-kinds
 use Rattle.job.proofs.work.Reads as work-reads
 
--- what is given: settings, tape, workspace, picture and stripe height; at exit the workspace and the picture
+-- what is given: settings, tape, workspace, picture and stripes; at exit the workspace and the picture
 module _ (κs : Lfts 3) (a : Dens κs open-kinds.ps) where
   open-asks : open-reads.Pre κs a ≡ Unit {0}
   open-asks = refl
 
   open-tells : (r : JobAnswer) (x : AtExit (endedOf 3 open-kinds.ps open-kinds.r) κs)
       → open-reads.Post κs a r x
-      ≡ Opened (a .0) (now (a .1 .0)) (now (a .1 .1 .0)) (now (x .1 .1 .0)) (now (a .1 .1 .1 .0)) (now (x .1 .1 .1 .0)) (a .1 .1 .1 .1 .0) r
+      ≡ Opened (a .0) (now (a .1 .0)) (now (a .1 .1 .0)) (now (x .1 .1 .0)) (now (a .1 .1 .1 .0)) (now (x .1 .1 .1 .0)) (divisionOf (a .1 .1 .1 .1 .0)) r
   open-tells r x = refl
 
--- the same with the record, the stripe and the budget in place of the stripe height
+-- the same with the record, the stripe and the budget in place of the stripes
 module _ (κs : Lfts 3) (a : Dens κs work-kinds.ps) where
   work-asks : work-reads.Pre κs a ≡ Unit {0}
   work-asks = refl

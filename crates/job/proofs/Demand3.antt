@@ -28,12 +28,13 @@ use Rattle.compositor.specs.Draw.{Tapes, tapeStrokes, drawCall, cueCall, drawPi
 use Rattle.compositor.proofs.Painting.{strokes-length, strokes-append}
 use Rattle.compositor.proofs.ClearedPicture.{picture-drawn}
 use Rattle.compositor.proofs.AcceptedCalls.{cue-fits, cue-extra, cue-strokes, cue-again}
+use Rattle.job.specs.declared.Stripes.{Stripes}
 use Rattle.job.specs.declared.JobRecord.{JobRecord}
 use Rattle.job.specs.declared.JobAnswer.{JobAnswer}
-use Rattle.job.specs.Stripes.{Division, mostStripes, stripeOf, hasStripe, stripesFault, divisionOf, newRecord, counterOf, countersUnsound}
+use Rattle.job.specs.Stripes.{Division, mostStripes, stripeOf, hasStripe, stripesFault, divisionOf, stripesWith, newRecord, counterOf, countersUnsound}
 use Rattle.job.specs.Work.{openCall, onStripe, stepped, stripeCall, workCall}
 use Rattle.job.specs.History.{rowOf, Entry, History, afterOpen, afterWork, granted, budgets, count, dueOf, AllDue, PartlyDrawn, Demand3, asked, Possible}
-use Rattle.job.proofs.Division.{stripe-low, stripe-there, new-division, new-length, new-counter, with-division, with-length, with-same, with-other, all-sound}
+use Rattle.job.proofs.Division.{stripes-few, stripe-low, stripe-there, new-division, kept-length, new-length, new-counter, with-stripes, with-length, with-same, with-other, all-sound}
 use Rattle.job.proofs.CallWork.{strokes-done, take-taken}
 
 -- ---- numbers and lists
@@ -93,7 +94,7 @@ module _ (s : Settings) (d : Division) (ts : List Stroke) where
   row-long c y row e = strokes-length (take (c (stripeOf d y)) ts) y (replicate (rowBytes s) 0) ∙ length-replicate (rowBytes s) 0
 
   -- all strokes on each stripe
-  image-all : stripesFault s d ≡ 0 → (bytes : List ℕ) (c : ℕ → ℕ) → ((k : ℕ) → hasStripe s d k ≡ true → c k ≡ length ts) → image bytes c ≡ pictureAfter s ts (length ts) bytes
+  image-all : stripesFault s d ≡ 0 → (bytes : List ℕ) (c : ℕ → ℕ) → ((k : ℕ) → hasStripe d k ≡ true → c k ≡ length ts) → image bytes c ≡ pictureAfter s ts (length ts) bytes
   image-all fit bytes c all =
       ap (λ (n : ℕ). eachRow (rowBy c) (rowBytes s) n 0 bytes) (sym (add-zero (s .height)))
       ∙ rows-front (rowBy c) _ (rowBytes s) (s .height) 0 0 bytes
@@ -110,11 +111,11 @@ module _ (s : Settings) (tape : Tapes) (d : Division) (bytes : List ℕ) (ts : L
   record Kept (entries : List Entry) (picture : List ℕ) (job : JobRecord) : Type 0 where
     opens : (room : ℕ) → openCall s room (length bytes) tape d ≡ refuseIf (ltb room leastRoom) 11 0 (accepted ts)
     painted : picture ≡ image s d ts bytes (count ts entries)
-    division : divisionOf job ≡ d
+    stripes : job .stripes ≡ stripesWith d
     counters : length (job .counters) ≡ mostStripes
     counted : (k : ℕ) → counterOf job k ≡ count ts entries k
-    past : (k : ℕ) → hasStripe s d k ≡ false → counterOf job k ≡ 0
-    due : AllDue s ts d entries
+    past : (k : ℕ) → hasStripe d k ≡ false → counterOf job k ≡ 0
+    due : AllDue ts d entries
 
   kept-open : (room : ℕ) → openCall s room (length bytes) tape d ≡ accepted ts → Kept [] (cleared s bytes) (newRecord d)
   unfolding count AllDue strokesOn
@@ -124,7 +125,7 @@ module _ (s : Settings) (tape : Tapes) (d : Division) (bytes : List ℕ) (ts : L
         painted =
             sym (rows-kept (strokesOn []) (rowBytes s) (s .height) 0 (cleared s bytes) (λ j row l. refl))
             ∙ picture-drawn s ts 0 bytes;
-        division = new-division s d (cue-extra s room (length bytes) tape (stripesFault s d) e);
+        stripes = refl;
         counters = new-length d;
         counted = new-counter d;
         past = λ k l. new-counter d k;
@@ -141,6 +142,9 @@ module _ (s : Settings) (tape : Tapes) (d : Division) (bytes : List ℕ) (ts : L
     fit : stripesFault s d ≡ 0
     fit = cue-extra s leastRoom (length bytes) tape (stripesFault s d) (kept .opens leastRoom)
 
+    division : divisionOf (job .stripes) ≡ d
+    division = ap divisionOf (kept .stripes) ∙ new-division s d fit
+
     partly : PartlyDrawn s ts d bytes entries picture job
     partly =
         let c = count ts entries in
@@ -154,7 +158,7 @@ module _ (s : Settings) (tape : Tapes) (d : Division) (bytes : List ℕ) (ts : L
               ap (drop (pictureBytes s)) (kept .painted)
               ∙ rows-behind (rowBy s d ts c) (rowBytes s) (row-long s d ts c) (s .height) 0 bytes fits;
           sameSize = ap length (kept .painted) ∙ rows-length (rowBy s d ts c) (rowBytes s) (row-long s d ts c) (s .height) 0 bytes fits;
-          sameDivision = kept .division;
+          sameStripes = kept .stripes;
           sixtyFour = kept .counters;
           counted = kept .counted;
           past = kept .past;
@@ -162,10 +166,10 @@ module _ (s : Settings) (tape : Tapes) (d : Division) (bytes : List ℕ) (ts : L
         }
 
     -- 14 does not arise
-    counters-sound : countersUnsound s d (length ts) 0 (job .counters) ≡ false
-    counters-sound = all-sound s d (length ts) 0 (job .counters) (λ j. rw zero-add (small j (hasStripe s d j) refl))
+    counters-sound : countersUnsound d (length ts) 0 (job .counters) ≡ false
+    counters-sound = all-sound d (length ts) 0 (job .counters) (λ j. rw zero-add (small j (hasStripe d j) refl))
       where
-        small : (j : ℕ) (there : Bool) → hasStripe s d j ≡ there → counterOf job j ≤ cond there (length ts) 0
+        small : (j : ℕ) (there : Bool) → hasStripe d j ≡ there → counterOf job j ≤ cond there (length ts) 0
         small j true e = omega (arith, kept .counted j, count-most ts j entries)
         small j false e = omega (arith, kept .past j e)
 
@@ -179,17 +183,17 @@ module _ (s : Settings) (tape : Tapes) (d : Division) (bytes : List ℕ) (ts : L
       abbrev comes : Bool → Bool → Outcome (List Stroke)
       comes short there = refuseIf short 11 0 (refuseIf (not there) 12 0 (accepted strokes))
 
-      stripe-comes : stripeCall s job k n ts ≡ comes false (hasStripe s d k)
+      stripe-comes : stripeCall job k n ts ≡ comes false (hasStripe d k)
       unfolding stripeCall
-      stripe-comes = rw (kept .division, counters-sound, kept .counted k)
+      stripe-comes = rw (division, counters-sound, kept .counted k)
 
-      work-comes : workCall s room (length picture) tape job k n ≡ comes (ltb room leastRoom) (hasStripe s d k)
+      work-comes : workCall s room (length picture) tape job k n ≡ comes (ltb room leastRoom) (hasStripe d k)
       unfolding workCall
       work-comes =
-          ap₂ (λ (size : ℕ) (e : Division). andThen (stripeCall s job k n) (openCall s room size tape e)) (partly .sameSize) (kept .division)
+          ap₂ (λ (size : ℕ) (e : Division). andThen (stripeCall job k n) (openCall s room size tape e)) (partly .sameSize) division
           ∙ rw (kept .opens room) (by (ltb room leastRoom))
         where
-          by : (short : Bool) → andThen (stripeCall s job k n) (refuseIf short 11 0 (accepted ts)) ≡ comes short (hasStripe s d k)
+          by : (short : Bool) → andThen (stripeCall job k n) (refuseIf short 11 0 (accepted ts)) ≡ comes short (hasStripe d k)
           by true = refl
           by false = stripe-comes
 
@@ -229,10 +233,10 @@ module _ (s : Settings) (tape : Tapes) (d : Division) (bytes : List ℕ) (ts : L
           (rw (eq-eqb k k refl, ← count-here) (row-more s ts (count ts entries k) n y))
           (λ j other. rw (ne-eqb j k other, count-other j other))
 
-      stripe-painted : onStripe s (divisionOf job) k strokes picture ≡ image s d ts bytes (count ts later)
+      stripe-painted : onStripe s (divisionOf (job .stripes)) k strokes picture ≡ image s d ts bytes (count ts later)
       stripe-painted =
           let c = count ts entries in
-          rw (kept .division, kept .painted)
+          rw (division, kept .painted)
           (sym (rows-then (rowBy s d ts c) (rowBytes s) (row-long s d ts c) _ (s .height) 0 bytes fits)
           ∙ (λ i. eachRow (λ y row. row-painted y (stripeOf d y) i) (rowBytes s) (s .height) 0 bytes))
 
@@ -243,20 +247,20 @@ module _ (s : Settings) (tape : Tapes) (d : Division) (bytes : List ℕ) (ts : L
       abbrev Keeps : Outcome (List Stroke) → Type 0
       Keeps o = Kept (after (answerOf (onAccepted length o))) (leaves o .0) (leaves o .1)
 
-      kept-refused : (number : ℕ) → Answer.Refused number 0 ≡ dueOf s ts d (entryOf k n room (Answer.Refused number 0)) entries → Keeps (refused number 0)
+      kept-refused : (number : ℕ) → Answer.Refused number 0 ≡ dueOf ts d (entryOf k n room (Answer.Refused number 0)) entries → Keeps (refused number 0)
       unfolding AllDue
       kept-refused number due =
           record {
             opens = kept .opens;
             painted = kept .painted ∙ (λ i. image s d ts bytes (λ j. count-refused number j i));
-            division = kept .division;
+            stripes = kept .stripes;
             counters = kept .counters;
             counted = λ j. kept .counted j ∙ count-refused number j;
             past = kept .past;
             due = (due, kept .due);
           }
 
-      kept-accepted : ltb room leastRoom ≡ false → hasStripe s d k ≡ true → Keeps (accepted strokes)
+      kept-accepted : ltb room leastRoom ≡ false → hasStripe d k ≡ true → Keeps (accepted strokes)
       unfolding AllDue
       kept-accepted wide there =
           let c = counterOf job k + length strokes in
@@ -264,21 +268,21 @@ module _ (s : Settings) (tape : Tapes) (d : Division) (bytes : List ℕ) (ts : L
           record {
             opens = kept .opens;
             painted = stripe-painted;
-            division = with-division job k c ∙ kept .division;
+            stripes = with-stripes job k c ∙ kept .stripes;
             counters = with-length job k c ∙ kept .counters;
             counted =
                 one-and-others _
                 (with-same job k c low ∙ rw (kept .counted k) count-here)
                 (λ j other. with-other job k c j other ∙ kept .counted j ∙ count-other j other);
             past =
-                λ j e. with-other job k c j (λ q. true≢false (sym there ∙ ap (hasStripe s d) (sym q) ∙ e)) ∙ kept .past j e;
+                λ j e. with-other job k c j (λ q. true≢false (sym there ∙ ap (hasStripe d) (sym q) ∙ e)) ∙ kept .past j e;
             due = (rw (wide, there) (ap Answer.Accepted (omega (arith, count-here))), kept .due);
           }
 
       kept-work : Keeps (workCall s room (length picture) tape job k n)
-      kept-work = rw work-comes (by (ltb room leastRoom) (hasStripe s d k) refl refl)
+      kept-work = rw work-comes (by (ltb room leastRoom) (hasStripe d k) refl refl)
         where
-          by : (short there : Bool) → ltb room leastRoom ≡ short → hasStripe s d k ≡ there → Keeps (comes short there)
+          by : (short there : Bool) → ltb room leastRoom ≡ short → hasStripe d k ≡ there → Keeps (comes short there)
           by true there p q = kept-refused 11 (rw p)
           by false false p q = kept-refused 12 (rw (p, q))
           by false true p q = kept-accepted p q
@@ -305,6 +309,13 @@ module _ (s : Settings) (tape : Tapes) (d : Division) (bytes : List ℕ) where
             (sym (ap (λ (x : List ℕ × JobRecord). x .1) (w .changes)))
             (kept-work s tape d bytes ts (found .1) k n (length ws)),
       )
+
+-- a record has 64 entries
+pub entries-long : (s : Settings) (tape : Tapes) (d : Division) (bytes : List ℕ) {entries : List Entry} {picture : List ℕ} {job : JobRecord}
+    → History s tape d bytes entries picture job → length (job .stripes .«end_rows») ≡ mostStripes
+entries-long s tape d bytes history =
+    let found = all-kept s tape d bytes history in
+    ap (λ (x : Stripes). length (x .«end_rows»)) (found .1 .stripes) ∙ kept-length d (stripes-few s d (fit s tape d bytes (found .0) (found .1)))
 
 -- DEMAND 3
 pub demand-3 : Demand3
@@ -343,7 +354,7 @@ possible s tape d bytes ws ts e wishes = go wishes
 -- is large enough
 pub finished : (s : Settings) (tape : Tapes) (d : Division) (bytes : List ℕ) (entries : List Entry) (picture : List ℕ) (job : JobRecord)
     → History s tape d bytes entries picture job → (ts : List Stroke) → tapeStrokes s tape ≡ accepted ts
-    → ((k : ℕ) → hasStripe s d k ≡ true → counterOf job k ≡ length ts) → (room : ℕ) → leastRoom ≤ room
+    → ((k : ℕ) → hasStripe d k ≡ true → counterOf job k ≡ length ts) → (room : ℕ) → leastRoom ≤ room
     → picture ≡ changed (drawPicture s bytes) bytes (drawCall s room (length bytes) tape)
 finished s tape d bytes entries picture job history ts e all room enough =
     let found = all-kept s tape d bytes history in

@@ -17,7 +17,7 @@ use Rattle.compositor.specs.Picture.{rowAfter}
 use Rattle.compositor.specs.Draw.{Tapes, tapeStrokes}
 use Rattle.job.specs.declared.JobRecord.{JobRecord}
 use Rattle.job.specs.declared.JobAnswer.{JobAnswer}
-use Rattle.job.specs.Stripes.{Division, mostStripes, stripeOf, hasStripe, divisionOf, counterOf}
+use Rattle.job.specs.Stripes.{Division, mostStripes, stripeOf, hasStripe, stripesWith, counterOf}
 use Rattle.job.specs.Work.{openCall}
 use Rattle.job.specs.Worked.{Opened, Worked}
 
@@ -60,16 +60,16 @@ budgets k [] = 0
 budgets k (entry ∷ entries) = cond (eqb (entry .stripe) k) (granted (entry .budget) (entry .answer)) 0 + budgets k entries
 
 -- what is due of a call after others: 11, 12, or by how much it raised its stripe's c
-abbrev pub dueOf : Settings → List Stroke → Division → Entry → List Entry → Answer
-dueOf s ts d entry before =
+abbrev pub dueOf : List Stroke → Division → Entry → List Entry → Answer
+dueOf ts d entry before =
     cond (ltb (entry .room) leastRoom) (Answer.Refused 11 0)
-    (cond (hasStripe s d (entry .stripe)) (Answer.Accepted (count ts (entry ∷ before) (entry .stripe) - count ts before (entry .stripe)))
+    (cond (hasStripe d (entry .stripe)) (Answer.Accepted (count ts (entry ∷ before) (entry .stripe) - count ts before (entry .stripe)))
     (Answer.Refused 12 0))
 
 -- each call answered what was due
-unfoldable pub AllDue : Settings → List Stroke → Division → List Entry → Type 0
-AllDue s ts d [] = Unit
-AllDue s ts d (entry ∷ before) = (entry .answer ≡ dueOf s ts d entry before) × AllDue s ts d before
+unfoldable pub AllDue : List Stroke → Division → List Entry → Type 0
+AllDue ts d [] = Unit
+AllDue ts d (entry ∷ before) = (entry .answer ≡ dueOf ts d entry before) × AllDue ts d before
 
 -- ---- the claim
 
@@ -79,8 +79,8 @@ rowOf s bytes y = take (rowBytes s) (drop (y * rowBytes s) bytes)
 
 -- After such calls, where the caption has the strokes ts: each row holds what the first c strokes leave on a row of
 -- zeros, c that of its stripe, which is the smaller of T and the sum of the budgets accepted for it; the bytes after
--- the picture are as they were; the record has the division and 64 counters, that of stripe k its c, which is 0 past
--- the last stripe; and each call answered what was due.
+-- the picture are as they were; the record has the division, 0 in the entries that it does not use, and 64 counters,
+-- that of stripe k its c, which is 0 past the last stripe; and each call answered what was due.
 pub record PartlyDrawn
     (s : Settings)
     (ts : List Stroke)
@@ -93,11 +93,11 @@ pub record PartlyDrawn
   pub summed : (k : ℕ) → count ts entries k ≡ min (length ts) (budgets k entries)
   pub beyond : drop (pictureBytes s) picture ≡ drop (pictureBytes s) bytes
   pub sameSize : length picture ≡ length bytes
-  pub sameDivision : divisionOf job ≡ d
+  pub sameStripes : job .stripes ≡ stripesWith d
   pub sixtyFour : length (job .counters) ≡ mostStripes
   pub counted : (k : ℕ) → counterOf job k ≡ count ts entries k
-  pub past : (k : ℕ) → hasStripe s d k ≡ false → counterOf job k ≡ 0
-  pub due : AllDue s ts d entries
+  pub past : (k : ℕ) → hasStripe d k ≡ false → counterOf job k ≡ 0
+  pub due : AllDue ts d entries
 
 abbrev pub Demand3 : Type 0
 Demand3 =

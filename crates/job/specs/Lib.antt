@@ -4,4 +4,5 @@ pub mod Stripes
 pub mod Work
 pub mod Worked
 pub mod History
+pub mod Ends
 pub mod Ready

@@ -20,7 +20,7 @@ use Rattle.job.specs.Work.{stepped}
 pub record Workable (s : Settings) (ws : List ℕ) (size : ℕ) (job : JobRecord) (lines total : ℕ) : Type 0 where
   pub range : InRange s
   pub fits : pictureBytes s ≤ size
-  pub stripes : stripesFault s (divisionOf job) ≡ 0
+  pub stripes : stripesFault s (divisionOf (job .stripes)) ≡ 0
   pub lined : Lined ws lines
   pub counts : total ≡ length (strokesIn s ws lines)
   pub few : total ≤ mostStrokes
@@ -28,7 +28,7 @@ pub record Workable (s : Settings) (ws : List ℕ) (size : ℕ) (job : JobRecord
 -- and so can stripe k of it
 pub record Steppable (s : Settings) (ws : List ℕ) (size : ℕ) (job : JobRecord) (k lines total : ℕ) : Type 0 where
   pub workable : Workable s ws size job lines total
-  pub there : hasStripe s (divisionOf job) k ≡ true
+  pub there : hasStripe (divisionOf (job .stripes)) k ≡ true
   pub sound : counterOf job k ≤ total
 
 -- Of a call that comes to the outcome o, what can be seen without its workspace, where it works on stripe k

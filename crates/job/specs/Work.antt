@@ -42,23 +42,23 @@ onStripe s d k ts bytes =
 -- what an accepted Work leaves that has done the strokes `done`: they are on the rows of stripe k, and its counter has
 -- grown by as many as they are
 abbrev pub stepped : Settings → JobRecord → ℕ → List ℕ → List Stroke → List ℕ × JobRecord
-stepped s job k bytes done = (onStripe s (divisionOf job) k done bytes, withCounter job k (counterOf job k + length done))
+stepped s job k bytes done = (onStripe s (divisionOf (job .stripes)) k done bytes, withCounter job k (counterOf job k + length done))
 
 -- ---- Work
 
 -- the test of the record, 14, where the caption has the strokes ts, and the test of the stripe, 12
-abbrev pub refuseRecord : {A : Type 0} → Settings → JobRecord → List Stroke → Outcome A → Outcome A
-refuseRecord s job ts o = refuseIf (countersUnsound s (divisionOf job) (length ts) 0 (job .counters)) 14 0 o
+abbrev pub refuseRecord : {A : Type 0} → JobRecord → List Stroke → Outcome A → Outcome A
+refuseRecord job ts o = refuseIf (countersUnsound (divisionOf (job .stripes)) (length ts) 0 (job .counters)) 14 0 o
 
-abbrev pub refuseStripe : {A : Type 0} → Settings → JobRecord → ℕ → Outcome A → Outcome A
-refuseStripe s job k o = refuseIf (not (hasStripe s (divisionOf job) k)) 12 0 o
+abbrev pub refuseStripe : {A : Type 0} → JobRecord → ℕ → Outcome A → Outcome A
+refuseStripe job k o = refuseIf (not (hasStripe (divisionOf (job .stripes)) k)) 12 0 o
 
 -- what Work on stripe k with budget n comes to, where the caption has the strokes ts: 14, 12, or the strokes that a
 -- step does
-unfoldable pub stripeCall : Settings → JobRecord → ℕ → ℕ → List Stroke → Outcome (List Stroke)
-stripeCall s job k n ts = refuseRecord s job ts (refuseStripe s job k (accepted (stepStrokes job k n ts)))
+unfoldable pub stripeCall : JobRecord → ℕ → ℕ → List Stroke → Outcome (List Stroke)
+stripeCall job k n ts = refuseRecord job ts (refuseStripe job k (accepted (stepStrokes job k n ts)))
 
 -- What a call of Work comes to: what Open of the record's division is refused by, and then these. It answers how many
 -- strokes it does.
 unfoldable pub workCall : Settings → ℕ → ℕ → Tapes → JobRecord → ℕ → ℕ → Outcome (List Stroke)
-workCall s room size tape job k n = andThen (stripeCall s job k n) (openCall s room size tape (divisionOf job))
+workCall s room size tape job k n = andThen (stripeCall job k n) (openCall s room size tape (divisionOf (job .stripes)))

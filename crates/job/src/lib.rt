@@ -1,14 +1,14 @@
 // A picture drawn in stripes, by calls that each do some of the strokes of one stripe.
 // What a job has done so far is in its record, by value: the calls keep nothing. `ws` is the workspace
 // throughout.
-mod stripes;
+mod stripe;
 
 ghost use mathlib.Core.Path.{_≡_};
-ghost use Prim.Native.Nat.{min};
+ghost use Prim.Native.Nat.{_≤_, min};
 ghost use lib.ListN.{length};
 ghost use Rattle.tape.specs.Outcome.{accepted};
 ghost use Rattle.compositor.specs.Read.{strokesIn};
-ghost use Rattle.job.specs.Stripes.{divisionOf, newRecord, noRecord, countersUnsound};
+ghost use Rattle.job.specs.Stripes.{mostStripes, divisionOf, stripesWith, newRecord, noRecord, countersUnsound};
 ghost use Rattle.job.specs.Work.{stepStrokes, stripeCall};
 ghost use Rattle.job.specs.Worked.{Opened, Worked};
 ghost use Rattle.job.specs.Ready.{Workable, Steppable, Did};
@@ -17,10 +17,16 @@ use compositor::Settings;
 use compositor::strokes::Window;
 use tape::Answer;
 
-// How far a job is: the rows of a stripe, but for the last, which may have fewer, and for each stripe
-// how many strokes its rows have had.
+// How a picture is divided into stripes, from the top: how many there are, and the end row of each,
+// which is the first row below it. The entries from the count on are not read.
+pub struct Stripes {
+    pub stripe_count: u32,
+    pub end_rows: [u32; 64],
+}
+
+// How far a job is: its stripes, and for each how many strokes its rows have had.
 pub struct JobRecord {
-    pub stripe_height: u32,
+    pub stripes: Stripes,
     pub counters: [u32; 64],
 }
 
@@ -30,13 +36,35 @@ pub struct JobAnswer {
     pub job: JobRecord,
 }
 
+impl Stripes {
+    // The same with 0 in the entries that are not read.
+    fn used(self) -> Stripes
+        requires { ⌜ length (divisionOf self) ≤ mostStripes ⌝ }
+        ensures { λ r. ⌜ r ≡ stripesWith (divisionOf self) ⌝ }
+    {
+        let count = self.stripe_count as usize;
+        let mut ends = [0; 64];
+        let mut k = 0;
+        while k < count {
+            ends[k] = self.end_rows[k];
+            k += 1;
+        }
+        Stripes {
+            stripe_count: self.stripe_count,
+            end_rows: ends,
+        }
+    }
+}
+
 impl JobRecord {
     // No stripe has had a stroke.
-    fn new(stripe_height: u32) -> JobRecord
-        ensures { λ r. ⌜ r ≡ newRecord «stripe_height» ⌝ }
+    fn new(given: Stripes) -> JobRecord
+        requires { ⌜ length (divisionOf given) ≤ mostStripes ⌝ }
+        ensures { λ r. ⌜ r ≡ newRecord (divisionOf given) ⌝ }
     {
+        let stripes = given.used();
         JobRecord {
-            stripe_height,
+            stripes,
             counters: [0; 64],
         }
     }
@@ -45,19 +73,26 @@ impl JobRecord {
     fn none() -> JobRecord
         ensures { λ r. ⌜ r ≡ noRecord ⌝ }
     {
+        let stripes = Stripes {
+            stripe_count: 0,
+            end_rows: [0; 64],
+        };
         JobRecord {
-            stripe_height: 0,
+            stripes,
             counters: [0; 64],
         }
     }
 
     // Whether a counter is over the caption's strokes, or not 0 past the last stripe.
-    fn is_unsound(self, s: Settings, total: usize) -> bool
-        ensures { λ r. ⌜ r ≡ countersUnsound s (divisionOf self) total 0 (self .counters) ⌝ }
+    fn is_unsound(self, total: usize) -> bool
+        requires { ⌜ length (divisionOf (self .stripes)) ≤ mostStripes ⌝ }
+        ensures { λ r. ⌜ r ≡ countersUnsound (divisionOf (self .stripes)) total 0 (self .counters) ⌝ }
     {
+        let stripes = self.stripes;
+        let count = stripes.stripe_count as usize;
         let mut k = 0;
-        while k < stripes::MOST_STRIPES {
-            let most = stripes::most_counted(s, self.stripe_height, k, total);
+        while k < stripe::MOST_STRIPES {
+            let most = stripe::most_counted(count, k, total);
             if most < self.counters[k] as usize {
                 return true;
             }
@@ -74,19 +109,19 @@ pub fn open(
     tape: &[u8],
     ws: &mut [u8],
     picture: &mut [u8],
-    stripe_height: u32,
+    stripes: Stripes,
 ) -> JobAnswer
     ensures { λ r. ⌜ Opened s (now (tape .entry)) (now (ws .entry)) (now (ws .exit))
-        (now (picture .entry)) (now (picture .exit)) «stripe_height» r ⌝ }
+        (now (picture .entry)) (now (picture .exit)) (divisionOf stripes) r ⌝ }
 {
-    let fault = stripes::fault(s, stripe_height);
+    let fault = stripe::fault(s, stripes);
     match compositor::read_cue(s, tape, ws, picture.len(), fault) {
         Cue::Laid(_, total) => {
             let size = s.picture_bytes();
             compositor::clear(picture, size);
             JobAnswer {
                 answer: Answer::Accepted(total),
-                job: JobRecord::new(stripe_height),
+                job: JobRecord::new(stripes),
             }
         }
         Cue::Refused(number, place) => JobAnswer {
@@ -124,7 +159,8 @@ fn step(
         from: done,
         to: done + m,
     };
-    stripes::draw_stripe(s, ws, lines, picture, job.stripe_height, k, window);
+    let stripes = job.stripes;
+    stripe::draw_stripe(s, ws, lines, picture, stripes, k, window);
     let mut after = job;
     after.counters[k] = (done + m) as u32;
     JobAnswer {
@@ -146,17 +182,19 @@ fn work_laid(
     budget: u32,
 ) -> JobAnswer
     requires { ⌜ Workable s (now ws) (length (now picture)) job lines total ⌝ }
-    ensures { λ r. ⌜ Did s job stripe (stripeCall s job stripe budget (strokesIn s (now (ws .entry)) lines))
+    ensures { λ r. ⌜ Did s job stripe (stripeCall job stripe budget (strokesIn s (now (ws .entry)) lines))
         (now (ws .entry)) (now (picture .entry)) (now (picture .exit)) r ⌝ }
 {
-    if job.is_unsound(s, total) {
+    if job.is_unsound(total) {
         return JobAnswer {
             answer: Answer::Refused(14, 0),
             job,
         };
     }
     let k = stripe as usize;
-    if !stripes::has_stripe(s, job.stripe_height, k) {
+    let stripes = job.stripes;
+    let count = stripes.stripe_count;
+    if count <= stripe {
         return JobAnswer {
             answer: Answer::Refused(12, 0),
             job,
@@ -180,7 +218,8 @@ pub fn work(
     ensures { λ r. ⌜ Worked s (now (tape .entry)) (now (ws .entry)) (now (ws .exit))
         (now (picture .entry)) (now (picture .exit)) job stripe budget r ⌝ }
 {
-    let fault = stripes::fault(s, job.stripe_height);
+    let stripes = job.stripes;
+    let fault = stripe::fault(s, stripes);
     match compositor::read_cue(s, tape, ws, picture.len(), fault) {
         Cue::Laid(lines, total) => work_laid(s, ws, lines, total, picture, job, stripe, budget),
         Cue::Refused(number, place) => JobAnswer {

@@ -1,24 +1,27 @@
 // Replays a sample of calls of Draw, and of jobs: an Open and the Works after it. Each entry has, high
 // byte first: width and height, two bytes each; the default color and the outline's, red, green, blue,
 // alpha; line height, bottom margin, outline, alignment and glyph mode, four bytes each; the side margin
-// in two bytes, slant and outline cap in one each; then two bytes each: the stripe height; 0 for a Draw, or 1 more than the job has Works; how many bytes the picture's
-// buffer has; and how many bytes follow. Those are the Works, each its stripe in one byte and its budget
-// in four, and then the tape. Writes a line for each call: how many strokes the caption has, or a Work
-// did, and a digest of the whole buffer, which held 5A throughout before the first; or the refusal. A
-// job whose Open is refused ends with it.
+// in two bytes; in one byte each slant, outline cap, how many stripes there are, and how many of their
+// end rows are written; then two bytes each: 0 for a Draw, or 1 more than the job has Works; how many
+// bytes the picture's buffer has; and how many bytes follow. Those are the end rows, two bytes each,
+// of which the others are 0; the Works, each its stripe in one byte and its budget in four; and then the
+// tape. Writes a line for each call: how many strokes the caption has, or a Work did, and a digest of
+// the whole buffer, which held 5A throughout before the first; or the refusal. A job whose Open is
+// refused ends with it.
 //
 // The file `stdin` holds random captions and jobs, and faulty calls, and `stdout` what the original
-// makes of the captions, also where it is stopped after so many strokes, and what document 01 says of
+// makes of the captions, also where it is stopped after so many strokes, and what the documents say of
 // the others (`compare draw-sample` and `compare draw-sample-answers` in host/ write them), so each
 // run of the gate holds drawing, in one call and in many, to the original.
 ghost use Prim.Native.Nat.{_+_, _≤_, _<_};
 ghost use lib.ListN.{length};
 use compositor::Settings;
 use job::JobRecord;
+use job::Stripes;
 use libc::STDIN_FILENO;
 use tape::Answer;
 
-// The bytes of an entry before its Works.
+// The bytes of an entry before its end rows.
 const HEADER: usize = 44;
 
 // The bytes of a Work.
@@ -109,13 +112,13 @@ fn work(
 // Opens a job, and does its Works where that is not refused.
 fn open(
     s: Settings,
-    stripe_height: u32,
+    stripes: Stripes,
     works: &[u8],
     tape: &[u8],
     workspace: &mut [u8],
     picture: &mut [u8],
 ) -> bool {
-    let opened = job::open(s, tape, workspace, picture, stripe_height);
+    let opened = job::open(s, tape, workspace, picture, stripes);
     let answer = opened.answer;
     if !write_answer(answer, picture) {
         return false;
@@ -127,24 +130,58 @@ fn open(
     }
 }
 
-// Where the tape of an entry is due: behind its header and its Works.
-fn tape_start(entry: &[u8]) -> usize
+// Where the Works of an entry are due: behind its header and its end rows.
+fn works_start(entry: &[u8]) -> usize
     requires { ⌜ 44 ≤ length (now entry) ⌝ }
-    ensures { λ r. ⌜ 44 ≤ r ⌝ }
+    ensures { λ r. ⌜ (44 ≤ r) × (r < 65536) ⌝ }
+{
+    HEADER + 2 * (report::number_at(entry, 36) % 256)
+}
+
+// Where the tape of an entry is due: behind its Works.
+fn tape_start(entry: &[u8], works: usize) -> usize
+    requires { ⌜ (44 ≤ length (now entry)) × (works < 65536) ⌝ }
+    ensures { λ r. ⌜ works ≤ r ⌝ }
 {
     let calls = report::number_at(entry, 38);
     if calls == 0 {
-        return HEADER;
+        return works;
     }
-    HEADER + WORK * (calls - 1)
+    works + WORK * (calls - 1)
 }
 
-// Makes the calls of one entry, whose tape begins at a place. False where the output takes no more.
-fn print_calls(entry: &[u8], start: usize, workspace: &mut [u8], picture: &mut [u8]) -> bool
-    requires { ⌜ (44 ≤ start) × (start ≤ length (now entry)) × (65535 ≤ length (now picture)) ⌝ }
+// The stripes of an entry whose Works begin at a place. The end rows that are not written are 0.
+fn stripes(entry: &[u8], works: usize) -> Stripes
+    requires { ⌜ (44 ≤ works) × (works ≤ length (now entry)) ⌝ }
+{
+    let written = (works - HEADER) / 2;
+    let mut ends = [0; 64];
+    let mut k = 0;
+    while k < 64 {
+        if k < written {
+            ends[k] = report::number_at(entry, HEADER + 2 * k) as u32;
+        }
+        k += 1;
+    }
+    let count = (report::number_at(entry, 36) / 256) as u32;
+    Stripes {
+        stripe_count: count,
+        end_rows: ends,
+    }
+}
+
+// Makes the calls of one entry, whose Works begin at a place and whose tape begins at another. False
+// where the output takes no more.
+fn print_calls(
+    entry: &[u8],
+    works: usize,
+    start: usize,
+    workspace: &mut [u8],
+    picture: &mut [u8],
+) -> bool
+    requires { ⌜ (44 ≤ works) × (works ≤ start) × (start ≤ length (now entry)) × (65535 ≤ length (now picture)) ⌝ }
 {
     let s = settings(entry);
-    let stripe_height = report::number_at(entry, 36) as u32;
     let size = report::number_at(entry, 40);
     fill(picture, size);
     let tape = &entry[start..entry.len()];
@@ -153,8 +190,8 @@ fn print_calls(entry: &[u8], start: usize, workspace: &mut [u8], picture: &mut [
     }
     open(
         s,
-        stripe_height,
-        &entry[HEADER..start],
+        stripes(entry, works),
+        &entry[works..start],
         tape,
         workspace,
         &mut picture[0..size],
@@ -172,11 +209,12 @@ fn replay(entries: &[u8], workspace: &mut [u8], picture: &mut [u8]) -> bool
             return false;
         }
         let entry = &entries[at..end];
-        let start = tape_start(entry);
+        let works = works_start(entry);
+        let start = tape_start(entry, works);
         if entry.len() < start {
             return false;
         }
-        if !print_calls(entry, start, workspace, picture) {
+        if !print_calls(entry, works, start, workspace, picture) {
             return true;
         }
         at = end;

@@ -1,7 +1,8 @@
 //! The calls Open and Work.
 
 use crate::refusal::{self, Cause, Result};
-use crate::{Record, Settings, Workspace, raw};
+use crate::{Record, Settings, Stripes, Workspace, raw, stripes};
+use std::ops::Range;
 
 /// A cue that is drawn in stripes, a budget of strokes at a time.
 ///
@@ -13,12 +14,13 @@ use crate::{Record, Settings, Workspace, raw};
 /// picture resumes it with the same tape and settings.
 ///
 /// ```
-/// use captions::{Job, Record, Settings, Workspace, draw};
+/// use captions::{Job, Record, Settings, Stripes, Workspace, draw};
 ///
 /// let (settings, tape) = (Settings::new(64, 48), b"\x02H\x02i");
 /// let workspace = &mut Workspace::new();
 /// let mut picture = settings.new_picture();
-/// let mut job = Job::open(&settings, tape, workspace, &mut picture, 16)?;
+/// let stripes = Stripes::new(48, &[16, 24, 48])?;
+/// let mut job = Job::open(&settings, tape, workspace, &mut picture, &stripes)?;
 /// job.work(workspace, 1, 5)?;
 /// let stored = (job.record().to_bytes(), job.picture().to_vec());
 ///
@@ -43,21 +45,22 @@ pub struct Job<'a> {
 }
 
 impl<'a> Job<'a> {
-    /// Clears the picture, of which stripes are so many rows high; the last may be lower.
+    /// Clears the picture, which is drawn in these stripes. They are refused where they are those of
+    /// a picture of another height.
     pub fn open(
         settings: &Settings,
         tape: &'a [u8],
         workspace: &mut Workspace,
         picture: &'a mut [u8],
-        stripe_height: u32,
+        stripes: &Stripes,
     ) -> Result<Job<'a>> {
-        let mut record = Record::new(0);
+        let mut record = Record::ZEROS;
         let buffers = raw::Buffers {
             tape,
             workspace: workspace.bytes(),
             picture,
         };
-        let answer = raw::open(&settings.raw(), buffers, stripe_height, &mut record);
+        let answer = raw::open(&settings.raw(), buffers, stripes.raw(), &mut record);
         let total = refusal::answer(answer)?;
         Ok(Job {
             settings: *settings,
@@ -71,17 +74,16 @@ impl<'a> Job<'a> {
     /// Goes on with a job from its stored record and picture, exactly as if it had never stopped.
     /// Nothing of the picture changes before the next Work.
     ///
-    /// Refused is what Work refuses on any stripe: settings, tape or lengths that no call takes, a
-    /// stripe height that does not fit the picture, and counters that no job with this tape and
-    /// these settings can have. The rest cannot be checked: that tape and settings are those of
+    /// Refused is what Work refuses on any stripe: settings, tape or lengths that no call takes,
+    /// stripes that do not fit the picture, and counters that no job with this tape and these
+    /// settings can have. The rest cannot be checked: that tape and settings are those of
     /// Open, and that the picture is the one that the record was stored with. Where they are not,
     /// no call fails, but what comes out is not what Draw leaves.
     ///
     /// How many strokes there are in all is not in the record: it is asked of an Open on a picture
     /// without rows, which reads the tape once more.
     ///
-    /// A picture without rows has no stripes: its record has a stripe height over 0, and counters
-    /// of 0.
+    /// A picture without rows has no stripes: its record has a count of 0, and counters of 0.
     pub fn resume(
         settings: &Settings,
         tape: &'a [u8],
@@ -132,12 +134,12 @@ impl<'a> Job<'a> {
 
     /// How many stripes the picture has.
     pub fn stripes(&self) -> u32 {
-        // An open job's stripes have a row at least.
-        self.settings.height.div_ceil(self.stripe_height().max(1))
+        self.record.count
     }
 
-    pub fn stripe_height(&self) -> u32 {
-        self.record.stripe_height
+    /// The rows of a stripe; none where the picture does not have it.
+    pub fn rows(&self, stripe: u32) -> Option<Range<u32>> {
+        stripes::rows(self.record.used_ends(), stripe)
     }
 
     /// How many strokes were done on a stripe; none on one that the picture does not have.
@@ -159,5 +161,6 @@ fn strokes(settings: &Settings, tape: &[u8], workspace: &mut Workspace) -> Resul
         height: 0,
         ..*settings
     };
-    Job::open(&flat, tape, workspace, &mut [], 1).map(|job| job.total)
+    let none = Stripes::new(0, &[])?;
+    Job::open(&flat, tape, workspace, &mut [], &none).map(|job| job.total)
 }

@@ -21,17 +21,19 @@ pub mod raw;
 mod record;
 mod refusal;
 mod settings;
+mod stripes;
 mod workspace;
 
 pub use command::Command;
 pub use job::Job;
 pub use lines::{COLUMNS_MAX, Line, wrap};
-pub use record::{RECORD_BYTES, Record, STRIPES_MAX};
+pub use record::{OLD_RECORD_BYTES, RECORD_BYTES, Record};
 pub use refusal::{Cause, Refusal, Result};
 pub use settings::{
     Align, GlyphMode, LINE_HEIGHT_MAX, OUTLINE_CAP_MAX, SIDE_MARGIN_MAX, SIDE_MAX, SLANT_MAX,
     Settings,
 };
+pub use stripes::{STRIPES_MAX, Stripes};
 pub use workspace::{WORKSPACE_BYTES, Workspace};
 
 /// The most bytes of a tape.

@@ -3,6 +3,7 @@
 #![allow(unsafe_code)]
 
 pub use crate::record::Record;
+use crate::stripes::PLACES;
 
 /// The settings, in the order that the library reads them; a color is 0xRRGGBBAA.
 #[derive(Clone, Copy, Debug, PartialEq, Eq)]
@@ -22,6 +23,32 @@ pub struct Settings {
     pub outline_cap: u32,
 }
 
+/// How a picture is cut into stripes: their ends are the first `count` entries, and the others are not
+/// read. It takes anything; [`captions::Stripes`](crate::Stripes) is one that fits a picture.
+#[derive(Clone, Copy, Debug, PartialEq, Eq)]
+#[repr(C)]
+pub struct Stripes {
+    pub count: u32,
+    pub ends: [u32; PLACES],
+}
+
+impl Stripes {
+    /// Stripes of one height, of which the last may be lower. Where they are too many, the count says
+    /// how many, and there are as many ends as have a place; of height 0 there is one, which ends at
+    /// row 0. Open refuses both.
+    pub fn of_height(height: u32, stripe_height: u32) -> Stripes {
+        let count = match stripe_height {
+            0 => 1,
+            rows => height.div_ceil(rows),
+        };
+        let mut ends = [0; PLACES];
+        for (end, stripes) in ends.iter_mut().zip(1..=count) {
+            *end = stripe_height.saturating_mul(stripes).min(height);
+        }
+        Stripes { count, ends }
+    }
+}
+
 /// The bytes that a call is lent.
 pub struct Buffers<'a> {
     pub tape: &'a [u8],
@@ -31,8 +58,8 @@ pub struct Buffers<'a> {
 }
 
 // The calls below are safe for one reason: each pointer and length are those of one slice, and each
-// reference is to one struct of numbers, lent for the call alone. Every tape, length, number and
-// record is allowed.
+// reference is to one struct of numbers, lent for the call alone. Every tape, length, number,
+// record and division into stripes is allowed.
 
 /// Breaks a tape's letters into lines, and answers how many the workspace then begins with.
 pub fn wrap(tape: &[u8], workspace: &mut [u8], column_limit: u32) -> u64 {
@@ -94,10 +121,10 @@ pub fn draw(settings: &Settings, buffers: Buffers) -> u64 {
     call!(captions_draw(settings, buffers))
 }
 
-/// Clears the picture for a tape's cue, gives the record of stripes so high, and answers how many
+/// Clears the picture for a tape's cue, gives the record of these stripes, and answers how many
 /// strokes the cue has.
-pub fn open(settings: &Settings, buffers: Buffers, stripe_height: u32, record: &mut Record) -> u64 {
-    call!(captions_open(settings, buffers, stripe_height: u32, record: &mut Record))
+pub fn open(settings: &Settings, buffers: Buffers, stripes: &Stripes, record: &mut Record) -> u64 {
+    call!(captions_open(settings, buffers, stripes: &Stripes, record: &mut Record))
 }
 
 /// Does the next strokes of a stripe, at most its budget, and answers how many.

@@ -33,7 +33,8 @@ pub enum Cause {
     WorkspaceTooShort,
     /// 12: Work on a stripe that the picture does not have.
     NoSuchStripe,
-    /// 13: a stripe height that is 0 or makes over [`STRIPES_MAX`](crate::STRIPES_MAX) stripes.
+    /// 13: over [`STRIPES_MAX`](crate::STRIPES_MAX) stripes, or ends that do not rise from above 0 to
+    /// the picture's height.
     StripesUnfit,
     /// 14: a counter of the record is over the cue's strokes, or not 0 past the last stripe.
     CountersUnsound,
@@ -112,7 +113,9 @@ impl Cause {
             Cause::TapeTooLong => "the tape has more than 16384 bytes",
             Cause::WorkspaceTooShort => "the workspace has fewer than 65536 bytes",
             Cause::NoSuchStripe => "the picture has no such stripe",
-            Cause::StripesUnfit => "the stripe height is 0, or makes more than 64 stripes",
+            Cause::StripesUnfit => {
+                "the stripes are more than 64, or their ends do not rise from above 0 to the height"
+            }
             Cause::CountersUnsound => {
                 "a counter is over the cue's strokes, or is not 0 past the last stripe"
             }

@@ -2,8 +2,8 @@
 
 mod common;
 
-use captions::{Align, GlyphMode, Job, Result, Settings, Workspace, draw, wrap};
-use common::{Random, painted};
+use captions::{Align, GlyphMode, Job, Result, Settings, Stripes, Workspace, draw, wrap};
+use common::{Random, painted, rising_ends};
 
 const CASES: u64 = 4_000;
 const AFTER: usize = 4;
@@ -87,9 +87,12 @@ fn in_stripes(
     picture: &mut [u8],
 ) -> Result<u32> {
     let least = settings.height.div_ceil(64).max(1);
-    let stripe_height = least + random.under(30);
+    let stripes = match random.one_in(2) {
+        true => Stripes::of_height(settings.height, least + random.under(30))?,
+        false => Stripes::new(settings.height, &rising_ends(random, settings.height))?,
+    };
     let workspace = &mut Workspace::new();
-    let mut job = Job::open(settings, tape, workspace, picture, stripe_height)?;
+    let mut job = Job::open(settings, tape, workspace, picture, &stripes)?;
     for stripe in 0..job.stripes() {
         while job.done(stripe) < job.total() {
             let before = job.done(stripe);

@@ -2,7 +2,7 @@
 //! library and run; and its names and numbers, held to those of the library's source and of the
 //! wrapper.
 
-use captions::raw::{Record, Settings};
+use captions::raw::{Record, Settings, Stripes};
 use captions::{
     Align, COLUMNS_MAX, Cause, GlyphMode, LETTERS_MAX, LINE_HEIGHT_MAX, OUTLINE_CAP_MAX,
     RECORD_BYTES, SIDE_MARGIN_MAX, SIDE_MAX, SLANT_MAX, STRIPES_MAX, TAPE_MAX, WORKSPACE_BYTES,
@@ -75,7 +75,7 @@ fn written(program: &Path) -> String {
     written.into_owned()
 }
 
-const CALLER: &str = "581 checks passed\n";
+const CALLER: &str = "2119 checks passed\n";
 
 #[test]
 fn a_caller_in_c() {
@@ -118,7 +118,8 @@ fn in_c(parameter: &str) -> Vec<String> {
         "&[u8]" => slice("const uint8_t"),
         "&mut [u8]" => slice("uint8_t"),
         "&[u32; 12]" => vec![format!("const captions_settings *{name}")],
-        "&mut [u32; 65]" => vec![format!("captions_record *{name}")],
+        "&[u32; 65]" => vec![format!("const captions_stripes *{name}")],
+        "&mut [u32; 129]" => vec![format!("captions_record *{name}")],
         _ => panic!("no type of C for `{of}`"),
     }
 }
@@ -191,20 +192,32 @@ fn settings_have_the_fields_of_the_wrapper_s() {
     assert_eq!(size_of::<Settings>(), 48);
 }
 
+const COUNT: &str = "uint32_t count;";
+const ENDS: &str = "uint32_t ends[CAPTIONS_STRIPES_MAX];";
+const COUNTERS: &str = "uint32_t counters[CAPTIONS_STRIPES_MAX];";
+
+#[test]
+fn stripes_have_the_fields_of_the_wrapper_s() {
+    let offsets = [offset_of!(Stripes, count), offset_of!(Stripes, ends)];
+    let header = read(HEADER);
+    let declared = declared(&header, "typedef struct {", "} captions_stripes;");
+    assert_eq!(declared, [COUNT, ENDS]);
+    assert_eq!(offsets, [0, 4]);
+    assert_eq!(size_of::<Stripes>(), 260);
+}
+
 #[test]
 fn a_record_has_the_fields_of_the_wrapper_s() {
-    let fields = [
-        ("uint32_t stripe_height;", offset_of!(Record, stripe_height)),
-        (
-            "uint32_t counters[CAPTIONS_STRIPES_MAX];",
-            offset_of!(Record, counters),
-        ),
+    let offsets = [
+        offset_of!(Record, count),
+        offset_of!(Record, ends),
+        offset_of!(Record, counters),
     ];
     let header = read(HEADER);
     let declared = declared(&header, "typedef struct {", "} captions_record;");
-    assert_eq!(declared, fields.map(|(field, _)| field));
-    assert_eq!(fields.map(|(_, offset)| offset), [0, 4]);
-    assert_eq!([size_of::<Record>(), RECORD_BYTES], [260; 2]);
+    assert_eq!(declared, [COUNT, ENDS, COUNTERS]);
+    assert_eq!(offsets, [0, 4, 260]);
+    assert_eq!([size_of::<Record>(), RECORD_BYTES], [516; 2]);
 }
 
 #[test]
@@ -279,7 +292,7 @@ fn the_header_has_the_names_of_the_wrapper() {
 fn the_header_has_the_numbers_of_the_wrapper() {
     let header = read(HEADER);
     let numbers = [
-        ("#define CAPTIONS_VERSION", 4),
+        ("#define CAPTIONS_VERSION", 5),
         ("#define CAPTIONS_TAPE_MAX", TAPE_MAX as u32),
         ("#define CAPTIONS_WORKSPACE_MIN", WORKSPACE_BYTES as u32),
         ("#define CAPTIONS_SIDE_MAX", SIDE_MAX),

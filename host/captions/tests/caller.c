@@ -13,7 +13,7 @@ enum {
     PICTURE_BYTES = WIDTH * HEIGHT * 4,
     AFTER = 16, /* bytes after the picture */
     STRIPE_HEIGHT = 7,
-    STRIPES = 6, /* the last has 5 rows */
+    STRIPES = 6, /* of that height; the last has 5 rows */
     BUDGET = 5,
     PAINT = 0xA5 /* what buffers hold before a call */
 };
@@ -69,10 +69,16 @@ static uint64_t draw(const struct call *c)
                          c->picture, c->picture_len);
 }
 
-static uint64_t open_job(const struct call *c, uint32_t stripe_height)
+static uint64_t open_job(const struct call *c, captions_stripes stripes)
 {
     return captions_open(&c->settings, c->tape, c->tape_len, c->workspace, c->workspace_len,
-                         c->picture, c->picture_len, stripe_height, &record);
+                         c->picture, c->picture_len, &stripes, &record);
+}
+
+/* In stripes of one height. */
+static uint64_t open_equal(const struct call *c, uint32_t stripe_height)
+{
+    return open_job(c, captions_stripes_of_height(c->settings.height, stripe_height));
 }
 
 static uint64_t work(const struct call *c, uint32_t stripe, uint32_t budget)
@@ -272,14 +278,17 @@ static void check_glyph_modes(void)
     check(pixels_in_mode(replaced, 0x00, '\'') == quote, "glyph mode 1: a plain quote stays");
 }
 
-/* Works on a stripe until its strokes are done. Returns whether no call was refused. */
+/*
+ * Works on a stripe until its strokes are done. Returns whether they came to an end, in no more
+ * calls than the longest of these jobs has strokes, and no call was refused.
+ */
 static int finish(const struct call *c, uint32_t stripe)
 {
-    uint64_t done;
-    do {
+    uint64_t done = BUDGET;
+    for (int calls = 0; calls < LEANING_LETTERS * 33 && done == BUDGET; calls++) {
         done = work(c, stripe, BUDGET);
-    } while (done == BUDGET);
-    return captions_refused(done) == 0;
+    }
+    return done < BUDGET;
 }
 
 /* A job, all its stripes done a few strokes at a time, leaves what Draw leaves. */
@@ -291,10 +300,12 @@ static void check_job(struct call c)
     memcpy(drawn, picture, sizeof picture);
 
     memset(picture, PAINT, sizeof picture);
-    check(open_job(&c, STRIPE_HEIGHT) == total, "Open: answers as many strokes as Draw");
+    check(open_equal(&c, STRIPE_HEIGHT) == total, "Open: answers as many strokes as Draw");
     check(is_all(picture, PICTURE_BYTES, 0), "Open: clears the picture");
     check(is_all(picture + PICTURE_BYTES, AFTER, PAINT), "Open: the bytes after the picture stay");
-    check(record.stripe_height == STRIPE_HEIGHT, "Open: the record has the stripe height");
+    check(record.count == STRIPES, "Open: the record has the count of the stripes");
+    check(record.ends[0] == STRIPE_HEIGHT, "Open: the record has the first end");
+    check(record.ends[STRIPES - 1] == HEIGHT, "Open: the record has the last end");
     check(is_all(record.counters, sizeof record.counters, 0), "Open: the counters are 0");
 
     check(work(&c, 2, BUDGET) == BUDGET, "Work: does as many strokes as its budget");
@@ -424,7 +435,7 @@ static void check_outline_caps(void)
             c.settings.outline = outlines[i];
             c.settings.outline_cap = cap;
             check(draw(&c) == GREETING_LETTERS * (1 + 8 * drawn), "Draw: strokes by the cap");
-            check(open_job(&c, STRIPE_HEIGHT) == GREETING_LETTERS * (1 + 8 * drawn),
+            check(open_equal(&c, STRIPE_HEIGHT) == GREETING_LETTERS * (1 + 8 * drawn),
                   "Open: strokes by the cap");
         }
     }
@@ -450,7 +461,7 @@ static void check_stored(void)
     memset(picture, PAINT, sizeof picture);
     draw(&c);
     memcpy(drawn, picture, sizeof picture);
-    open_job(&c, STRIPE_HEIGHT);
+    open_equal(&c, STRIPE_HEIGHT);
     work(&c, 3, BUDGET);
     captions_record stored = record;
     memcpy(stored_picture, picture, sizeof picture);
@@ -480,7 +491,7 @@ static void check_empty(void)
     c.picture = NULL;
     c.picture_len = 0;
     check(draw(&c) == GREETING_LETTERS * 9, "Draw: on a picture without rows");
-    check(open_job(&c, STRIPE_HEIGHT) == GREETING_LETTERS * 9, "Open: of a picture without rows");
+    check(open_equal(&c, STRIPE_HEIGHT) == GREETING_LETTERS * 9, "Open: of a picture without rows");
     check(captions_refused(work(&c, 0, 1)) == CAPTIONS_NO_SUCH_STRIPE, "Work: it has no stripe");
 }
 
@@ -518,12 +529,12 @@ static void check_draw_refused(const struct call *c, uint32_t number, uint32_t p
     check_left("Draw, refused: leaves the picture, and the workspace where it must", number);
 }
 
-static void check_open_refused(const struct call *c, uint32_t stripe_height, uint32_t number,
+static void check_open_refused(const struct call *c, captions_stripes stripes, uint32_t number,
                                uint32_t place)
 {
     paint();
     memset(&record, PAINT, sizeof record);
-    check_answer("Open, refused", open_job(c, stripe_height), number, place);
+    check_answer("Open, refused", open_job(c, stripes), number, place);
     check_left("Open, refused: leaves the picture, and the workspace where it must", number);
     check(is_all(&record, sizeof record, 0), "Open, refused: writes zeros to the record");
 }
@@ -539,11 +550,18 @@ static void check_work_refused(const struct call *c, uint32_t stripe, uint32_t n
     check(memcmp(&record, &before, sizeof record) == 0, "Work, refused: leaves the record");
 }
 
-/* The record of a job that has done nothing. */
-static void new_record(uint32_t stripe_height)
+/* The record of a job in these stripes that has done nothing. */
+static void new_record(captions_stripes stripes)
 {
     memset(&record, 0, sizeof record);
-    record.stripe_height = stripe_height;
+    record.count = stripes.count;
+    memcpy(record.ends, stripes.ends, sizeof record.ends);
+}
+
+/* Stripes as high as most of these calls have them. */
+static captions_stripes usual_stripes(void)
+{
+    return captions_stripes_of_height(HEIGHT, STRIPE_HEIGHT);
 }
 
 /* A letter without ink stands in its cell and has no strokes. */
@@ -556,7 +574,7 @@ static void check_letters_without_ink(void)
     c.tape = control_between;
     c.tape_len = sizeof control_between;
     check(draw(&c) == 18, "Draw: the letters A, 01 and B have eighteen strokes");
-    new_record(STRIPE_HEIGHT);
+    new_record(usual_stripes());
     record.counters[0] = 18;
     check(work(&c, 0, BUDGET) == 0, "Work: eighteen are all");
     record.counters[0] = 19;
@@ -567,7 +585,7 @@ static void check_letters_without_ink(void)
     c.tape = without_ink;
     c.tape_len = sizeof without_ink;
     check(draw(&c) == 0, "Draw: a no-break space and a soft hyphen have no strokes");
-    check(open_job(&c, STRIPE_HEIGHT) == 0, "Open: nor has their job");
+    check(open_equal(&c, STRIPE_HEIGHT) == 0, "Open: nor has their job");
     check(work(&c, 3, BUDGET) == 0, "Work: which has nothing to do");
     check(is_all(picture, PICTURE_BYTES, 0), "Work: and leaves a clear picture");
 }
@@ -575,8 +593,8 @@ static void check_letters_without_ink(void)
 static void check_refused(const struct call *c, uint32_t number, uint32_t place)
 {
     check_draw_refused(c, number, place);
-    check_open_refused(c, STRIPE_HEIGHT, number, place);
-    new_record(STRIPE_HEIGHT);
+    check_open_refused(c, usual_stripes(), number, place);
+    new_record(usual_stripes());
     check_work_refused(c, 0, number, place);
 }
 
@@ -630,7 +648,7 @@ static void check_counters_of_caps(void)
 {
     struct call c = house_call();
     check(draw(&c) == LEANING_LETTERS * 33, "Draw: 33 strokes for each letter with ink");
-    new_record(STRIPE_HEIGHT);
+    new_record(usual_stripes());
     record.counters[1] = LEANING_LETTERS * 33;
     check(work(&c, 1, BUDGET) == 0, "Work: these are all");
     record.counters[1] = LEANING_LETTERS * 33 + 1;
@@ -660,7 +678,7 @@ static void check_range(struct call *c, uint32_t *setting, uint32_t limit)
     for (uint32_t end = 0; end <= limit; end += limit) {
         *setting = end;
         check(captions_refused(draw(c)) == 0, "Draw: both ends of a range are accepted");
-        check(captions_refused(open_job(c, STRIPE_HEIGHT)) == 0, "Open: both ends of a range");
+        check(captions_refused(open_equal(c, STRIPE_HEIGHT)) == 0, "Open: both ends of a range");
         check(captions_refused(work(c, 0, BUDGET)) == 0, "Work: both ends of a range");
     }
     *setting = UINT32_MAX;
@@ -709,11 +727,7 @@ static void check_length_refusals(void)
 static void check_job_refusals(void)
 {
     struct call c = good_call();
-    check_open_refused(&c, 0, CAPTIONS_STRIPES_UNFIT, 0);
-    new_record(0);
-    check_work_refused(&c, 0, CAPTIONS_STRIPES_UNFIT, 0);
-
-    new_record(STRIPE_HEIGHT);
+    new_record(usual_stripes());
     check_work_refused(&c, STRIPES, CAPTIONS_NO_SUCH_STRIPE, 0);
     record.counters[0] = GREETING_LETTERS * 9 + 1;
     check_work_refused(&c, 0, CAPTIONS_COUNTERS_UNSOUND, 0);
@@ -722,12 +736,261 @@ static void check_job_refusals(void)
     check_work_refused(&c, 0, CAPTIONS_COUNTERS_UNSOUND, 0);
 
     c.settings.width = 8;
-    c.settings.height = CAPTIONS_STRIPES_MAX + 1;
-    check_open_refused(&c, 1, CAPTIONS_STRIPES_UNFIT, 0);
     c.settings.height = CAPTIONS_STRIPES_MAX;
-    check(captions_refused(open_job(&c, 1)) == 0, "Open: as many stripes as may be");
+    check(captions_refused(open_equal(&c, 1)) == 0, "Open: as many stripes as may be");
     check(work(&c, CAPTIONS_STRIPES_MAX - 1, BUDGET) == BUDGET, "Work: on the last of them");
     check(record.counters[CAPTIONS_STRIPES_MAX - 1] == BUDGET, "Work: counted at the end");
+}
+
+/* Stripes with so many of these ends, and in the entries that are not used this number. */
+static captions_stripes stripes_with(uint32_t count, const uint32_t *ends, uint32_t unused)
+{
+    captions_stripes made;
+    made.count = count;
+    for (uint32_t k = 0; k < CAPTIONS_STRIPES_MAX; k++) {
+        made.ends[k] = k < count ? ends[k] : unused;
+    }
+    return made;
+}
+
+/* One tall stripe, and thin ones where the letters are. */
+static const uint32_t LOW[] = {23, 25, 26, 28, 29, HEIGHT};
+enum { LOW_STRIPES = sizeof LOW / sizeof LOW[0] };
+
+/* A stripe that is worked on alone: its rows are Draw's, all others stay clear. */
+static void check_stripe_alone(const struct call *c, const uint8_t *drawn, uint32_t stripe)
+{
+    static uint8_t due[sizeof picture];
+    size_t from = stripe > 0 ? LOW[stripe - 1] * WIDTH * 4u : 0;
+    size_t to = LOW[stripe] * WIDTH * 4u;
+    memset(due, 0, PICTURE_BYTES);
+    memset(due + PICTURE_BYTES, PAINT, AFTER);
+    memcpy(due + from, drawn + from, to - from);
+    check(!is_all(due, PICTURE_BYTES, 0), "unequal stripes: letters are in it");
+    memset(picture, PAINT, sizeof picture);
+    check(open_job(c, stripes_with(LOW_STRIPES, LOW, 0)) == GREETING_LETTERS * 9,
+          "unequal stripes: Open answers T");
+    check(work(c, stripe, UINT32_MAX) == GREETING_LETTERS * 9, "unequal stripes: Work does all");
+    check(memcmp(picture, due, sizeof picture) == 0, "unequal stripes: on the stripe's rows alone");
+    check(record.counters[stripe] == GREETING_LETTERS * 9, "unequal stripes: Work counts");
+}
+
+static void check_unequal_stripes(void)
+{
+    static uint8_t drawn[sizeof picture];
+    struct call c = good_call();
+    c.settings.default_color = 0xFFEE1190; /* translucent, so that the order of strokes shows */
+    draw(&c);
+    memcpy(drawn, picture, sizeof picture);
+    for (uint32_t stripe = 0; stripe < LOW_STRIPES; stripe++) {
+        check_stripe_alone(&c, drawn, stripe);
+    }
+    memset(picture, PAINT, sizeof picture);
+    open_job(&c, stripes_with(LOW_STRIPES, LOW, 0));
+    for (uint32_t stripe = LOW_STRIPES; stripe-- > 0;) {
+        check(finish(&c, stripe), "unequal stripes: Work is accepted, from the lowest up");
+    }
+    check(memcmp(picture, drawn, PICTURE_BYTES) == 0, "unequal stripes: all make what Draw leaves");
+    check_work_refused(&c, LOW_STRIPES, CAPTIONS_NO_SUCH_STRIPE, 0);
+    check_work_refused(&c, 1u << 8, CAPTIONS_NO_SUCH_STRIPE, 0);
+    check_work_refused(&c, 1u << 31, CAPTIONS_NO_SUCH_STRIPE, 0);
+    check_work_refused(&c, UINT32_MAX, CAPTIONS_NO_SUCH_STRIPE, 0);
+}
+
+/* Entries that are not used: Open writes zeros there, Work leaves what there is. */
+static void check_unused_entries(void)
+{
+    static uint8_t due[sizeof picture];
+    static const uint32_t junk[] = {1, 7, HEIGHT, HEIGHT + 1, UINT32_MAX};
+    struct call c = good_call();
+    open_job(&c, stripes_with(LOW_STRIPES, LOW, 0));
+    captions_record opened = record;
+    work(&c, 4, BUDGET);
+    captions_record worked = record;
+    memcpy(due, picture, sizeof picture);
+    for (size_t i = 0; i < sizeof junk / sizeof junk[0]; i++) {
+        captions_stripes stripes = stripes_with(LOW_STRIPES, LOW, junk[i]);
+        memset(&record, PAINT, sizeof record);
+        check(open_job(&c, stripes) == GREETING_LETTERS * 9, "unused entries: Open is accepted");
+        check(memcmp(&record, &opened, sizeof record) == 0, "unused entries: its record has 0");
+        memcpy(record.ends, stripes.ends, sizeof record.ends);
+        check(work(&c, 4, BUDGET) == BUDGET, "unused entries: Work is accepted");
+        check(memcmp(picture, due, sizeof picture) == 0, "unused entries: the picture is the same");
+        check(memcmp(record.ends, stripes.ends, sizeof record.ends) == 0, "unused entries: stay");
+        check(record.count == LOW_STRIPES, "unused entries: the count stays");
+        check(memcmp(record.counters, worked.counters, sizeof record.counters) == 0,
+              "unused entries: the counters are the same");
+        check_work_refused(&c, LOW_STRIPES, CAPTIONS_NO_SUCH_STRIPE, 0);
+    }
+}
+
+/* Stripes that do not fit: 13 at Open and at Work, after 11, and before the tape and 14. */
+static void check_unfit(struct call c, captions_stripes stripes)
+{
+    static const uint8_t faulty[] = {CAPTIONS_END};
+    check_open_refused(&c, stripes, CAPTIONS_STRIPES_UNFIT, 0);
+    new_record(stripes);
+    check_work_refused(&c, 0, CAPTIONS_STRIPES_UNFIT, 0);
+    c.tape = faulty;
+    c.tape_len = sizeof faulty;
+    check_open_refused(&c, stripes, CAPTIONS_STRIPES_UNFIT, 0);
+    new_record(stripes);
+    memset(record.counters, PAINT, sizeof record.counters);
+    check_work_refused(&c, UINT32_MAX, CAPTIONS_STRIPES_UNFIT, 0);
+    c.workspace_len = CAPTIONS_WORKSPACE_MIN - 1;
+    check_open_refused(&c, stripes, CAPTIONS_WORKSPACE_TOO_SHORT, 0);
+    new_record(stripes);
+    check_work_refused(&c, 0, CAPTIONS_WORKSPACE_TOO_SHORT, 0);
+}
+
+/* Each way to break the rule. */
+static void check_stripes_refusals(void)
+{
+    static const struct {
+        uint32_t count;
+        uint32_t ends[3];
+    } unfit[] = {
+        {0, {HEIGHT, 0, 0}}, {1, {0, HEIGHT, 0}}, {1, {HEIGHT - 1, HEIGHT, 0}},
+        {1, {HEIGHT + 1, HEIGHT, 0}}, {2, {0, HEIGHT, 0}}, {2, {HEIGHT, HEIGHT, 0}},
+        {2, {7, HEIGHT - 1, HEIGHT}}, {2, {HEIGHT + 1, HEIGHT, 0}}, {2, {HEIGHT, HEIGHT + 1, 0}},
+        {3, {7, 7, HEIGHT}}, {3, {8, 7, HEIGHT}}, {3, {0, 7, HEIGHT}},
+        {3, {7, UINT32_MAX, HEIGHT}}, {3, {7, HEIGHT, 0}}, {3, {7, HEIGHT, HEIGHT}}};
+    struct call c = good_call();
+    for (size_t i = 0; i < sizeof unfit / sizeof unfit[0]; i++) {
+        check_unfit(c, stripes_with(unfit[i].count, unfit[i].ends, 0));
+        check_unfit(c, stripes_with(unfit[i].count, unfit[i].ends, HEIGHT));
+    }
+    check_unfit(c, captions_stripes_of_height(HEIGHT, 0));
+    check_unfit(c, captions_stripes_of_height(HEIGHT - 1, STRIPE_HEIGHT));
+    check_unfit(c, captions_stripes_of_height(0, STRIPE_HEIGHT));
+}
+
+/* As many stripes as may be, one of them tall; and counts above that, whatever the entries are. */
+static void check_most_stripes(void)
+{
+    static const uint32_t above[] = {CAPTIONS_STRIPES_MAX + 1, 2 * CAPTIONS_STRIPES_MAX,
+                                     UINT32_MAX};
+    struct call c = good_call();
+    c.settings.width = 8;
+    c.settings.height = CAPTIONS_STRIPES_MAX;
+    captions_stripes stripes = captions_stripes_of_height(CAPTIONS_STRIPES_MAX, 1);
+    for (size_t i = 0; i < sizeof above / sizeof above[0]; i++) {
+        stripes.count = above[i];
+        check_unfit(c, stripes);
+    }
+    c.settings.height = 2 * CAPTIONS_STRIPES_MAX;
+    stripes.count = CAPTIONS_STRIPES_MAX;
+    for (uint32_t k = 0; k < CAPTIONS_STRIPES_MAX; k++) {
+        stripes.ends[k] = CAPTIONS_STRIPES_MAX + 1 + k;
+    }
+    check(captions_refused(open_job(&c, stripes)) == 0, "Open: 64 stripes, the first tall");
+    check(work(&c, CAPTIONS_STRIPES_MAX - 1, BUDGET) == BUDGET, "Work: on the last of them");
+    check_work_refused(&c, CAPTIONS_STRIPES_MAX, CAPTIONS_NO_SUCH_STRIPE, 0);
+    stripes.ends[CAPTIONS_STRIPES_MAX - 1]++;
+    check_unfit(c, stripes);
+    stripes.ends[CAPTIONS_STRIPES_MAX - 1]--;
+    stripes.ends[CAPTIONS_STRIPES_MAX - 2]++;
+    check_unfit(c, stripes);
+}
+
+/* What stands behind the entries, in a record the first counter, is not taken for one more. */
+static void check_behind_stripes(void)
+{
+    struct {
+        captions_stripes stripes;
+        uint32_t next;
+    } beside;
+    struct call c = good_call();
+    c.settings.width = 8;
+    c.settings.height = CAPTIONS_STRIPES_MAX + 1;
+    beside.stripes = captions_stripes_of_height(c.settings.height, 1);
+    beside.next = c.settings.height;
+    check_answer("Open, 65 stripes",
+                 captions_open(&c.settings, c.tape, c.tape_len, c.workspace, c.workspace_len,
+                               c.picture, c.picture_len, &beside.stripes, &record),
+                 CAPTIONS_STRIPES_UNFIT, 0);
+    new_record(beside.stripes);
+    record.counters[0] = beside.next;
+    check_work_refused(&c, 0, CAPTIONS_STRIPES_UNFIT, 0);
+}
+
+/* A picture without rows has no stripe, so that the record of zeros is its own. */
+static void check_no_stripes(void)
+{
+    static const uint32_t ends[] = {0, 1};
+    struct call c = good_call();
+    c.settings.height = 0;
+    check(open_job(&c, stripes_with(0, ends, 9)) == GREETING_LETTERS * 9, "no rows: no stripe");
+    check(is_all(&record, sizeof record, 0), "no rows: the record is of zeros");
+    check_work_refused(&c, 0, CAPTIONS_NO_SUCH_STRIPE, 0);
+    record.ends[0] = 9;
+    check_work_refused(&c, 0, CAPTIONS_NO_SUCH_STRIPE, 0);
+    record.counters[0] = 1;
+    check_work_refused(&c, 0, CAPTIONS_COUNTERS_UNSOUND, 0);
+    check_unfit(c, stripes_with(1, ends, 0));
+    check_unfit(c, stripes_with(1, ends + 1, 0));
+    check_unfit(c, stripes_with(2, ends, 0));
+    check_unfit(c, captions_stripes_of_height(0, 0));
+    c.settings.height = HEIGHT;
+    memset(&record, 0, sizeof record);
+    check_work_refused(&c, 0, CAPTIONS_STRIPES_UNFIT, 0);
+}
+
+/* Which counters are past the last stripe is for the count to say. */
+static void check_counters_of_counts(void)
+{
+    struct call c = good_call();
+    for (uint32_t k = 0; k < CAPTIONS_STRIPES_MAX; k++) {
+        new_record(stripes_with(LOW_STRIPES, LOW, HEIGHT + 1));
+        record.counters[k] = 1;
+        if (k < LOW_STRIPES) {
+            check(work(&c, k, BUDGET) == BUDGET, "Work: a counter of a stripe");
+            record.counters[k] = GREETING_LETTERS * 9 + 1;
+        }
+        check_work_refused(&c, 0, CAPTIONS_COUNTERS_UNSOUND, 0);
+        check_work_refused(&c, LOW_STRIPES, CAPTIONS_COUNTERS_UNSOUND, 0);
+    }
+}
+
+/* Whether row y is in stripe y / stripe_height, for each row, and the other entries are 0. */
+static int is_equal_cut(uint32_t height, uint32_t stripe_height)
+{
+    captions_stripes made = captions_stripes_of_height(height, stripe_height);
+    uint32_t row = 0;
+    for (uint32_t stripe = 0; stripe < CAPTIONS_STRIPES_MAX; stripe++) {
+        uint32_t first = row;
+        while (row < height && row / stripe_height == stripe) {
+            row++;
+        }
+        if (made.ends[stripe] != (row > first ? row : 0)) {
+            return 0;
+        }
+    }
+    return made.count == ((uint64_t)height + stripe_height - 1) / stripe_height;
+}
+
+static void check_equal_stripes(void)
+{
+    static const uint32_t heights[] = {0, 1, 2, 63, 64, 65, 127, 128, 129, 360, CAPTIONS_SIDE_MAX};
+    static const uint32_t large[] = {1u << 16, (1u << 26) - 1, 1u << 26, 1u << 31,
+                                     UINT32_MAX - 1, UINT32_MAX};
+    for (size_t i = 0; i < sizeof heights / sizeof heights[0]; i++) {
+        int same = 1;
+        for (uint32_t h = 1; h <= heights[i] + 2; h++) {
+            same = same && is_equal_cut(heights[i], h);
+        }
+        for (size_t j = 0; j < sizeof large / sizeof large[0]; j++) {
+            same = same && is_equal_cut(heights[i], large[j]);
+        }
+        check(same, "equal stripes: row y is in stripe y / h");
+        captions_stripes none = captions_stripes_of_height(heights[i], 0);
+        check(none.count == 1 && is_all(none.ends, sizeof none.ends, 0), "equal stripes: h is 0");
+    }
+    captions_stripes most = captions_stripes_of_height(UINT32_MAX, 1);
+    check(most.count == UINT32_MAX && most.ends[63] == 64, "equal stripes: as many as can be");
+    most = captions_stripes_of_height(UINT32_MAX, 1u << 31);
+    check(most.count == 2 && most.ends[0] == 1u << 31 && most.ends[1] == UINT32_MAX
+              && most.ends[2] == 0, "equal stripes: no sum wraps");
 }
 
 int main(void)
@@ -752,6 +1015,14 @@ int main(void)
     check_setting_refusals();
     check_length_refusals();
     check_job_refusals();
+    check_unequal_stripes();
+    check_unused_entries();
+    check_stripes_refusals();
+    check_most_stripes();
+    check_behind_stripes();
+    check_no_stripes();
+    check_counters_of_counts();
+    check_equal_stripes();
     if (failed > 0) {
         fprintf(stderr, "%d checks failed\n", failed);
         return 1;

@@ -4,7 +4,7 @@
 mod common;
 
 use captions::{Align, Job, Settings, Workspace, draw};
-use common::{painted, plain, tape};
+use common::{equal, painted, plain, tape};
 use std::collections::{BTreeMap, BTreeSet};
 
 /// Columns and rows, counted from the picture's corner.
@@ -268,7 +268,8 @@ fn strokes_are_counted_by_the_cap() {
             let workspace = &mut Workspace::new();
             let mut picture = settings.new_picture();
             assert_eq!(draw(&settings, &cue, workspace, &mut picture), Ok(due));
-            let job = Job::open(&settings, &cue, workspace, &mut picture, 9);
+            let stripes = equal(&settings, 9);
+            let job = Job::open(&settings, &cue, workspace, &mut picture, &stripes);
             assert_eq!(job.map(|job| job.total()), Ok(due));
         }
     }
@@ -294,7 +295,8 @@ fn the_strokes_of_an_outline_have_one_order() {
         let settings = outlined(u32::MAX, cap);
         let workspace = &mut Workspace::new();
         let mut picture = settings.new_picture();
-        let mut job = Job::open(&settings, &cue, workspace, &mut picture, 40).unwrap();
+        let stripes = equal(&settings, 40);
+        let mut job = Job::open(&settings, &cue, workspace, &mut picture, &stripes).unwrap();
         let mut due = BTreeMap::new();
         for (right, down) in displacements(cap.into()) {
             assert_eq!(job.work(workspace, 0, 1), Ok(1));
@@ -331,7 +333,8 @@ fn a_job_in_stripes_ends_as_draw() {
     for (stripe_height, budget) in [(1, 50), (3, 7), (8, 1), (8, 32), (9, 33), (41, 34)] {
         let workspace = &mut Workspace::new();
         let mut picture = painted(&settings, 0);
-        let mut job = Job::open(&settings, &cue, workspace, &mut picture, stripe_height).unwrap();
+        let stripes = equal(&settings, stripe_height);
+        let mut job = Job::open(&settings, &cue, workspace, &mut picture, &stripes).unwrap();
         assert_eq!(job.total(), total);
         // Round after round, so that no stripe is done before the others are begun.
         for done in (0..total).step_by(budget as usize) {
@@ -363,7 +366,8 @@ fn a_job_in_stripes_asks_for_each_setting() {
         assert!(drawn(&changed, &cue) != drawn(&settings, &cue));
         let workspace = &mut Workspace::new();
         let mut picture = painted(&changed, 0);
-        let mut job = Job::open(&changed, &cue, workspace, &mut picture, 20).unwrap();
+        let stripes = equal(&changed, 20);
+        let mut job = Job::open(&changed, &cue, workspace, &mut picture, &stripes).unwrap();
         for stripe in 0..job.stripes() {
             assert_eq!(job.work(workspace, stripe, u32::MAX), Ok(job.total()));
         }

@@ -2,8 +2,8 @@
 
 mod common;
 
-use captions::{Align, Cause, GlyphMode, Job, Refusal, Settings, Workspace, draw, wrap};
-use common::{PAINT, Random, painted, plain, tape};
+use captions::{Align, Cause, GlyphMode, Job, Refusal, Settings, Stripes, Workspace, draw, wrap};
+use common::{PAINT, Random, equal, painted, plain, tape};
 
 const AFTER: usize = 8;
 
@@ -22,6 +22,17 @@ fn drawn(settings: &Settings, tape: &[u8]) -> Vec<u8> {
     picture
 }
 
+/// A job on this picture in stripes of one height.
+fn opened<'a>(
+    settings: &Settings,
+    tape: &'a [u8],
+    picture: &'a mut [u8],
+    stripe_height: u32,
+) -> Job<'a> {
+    let stripes = equal(settings, stripe_height);
+    Job::open(settings, tape, &mut Workspace::new(), picture, &stripes).expect("it is admitted")
+}
+
 /// Does the job's next strokes on a stripe until so many are done.
 fn work_to(job: &mut Job, stripe: u32, count: u32) {
     let budget = count - job.done(stripe);
@@ -34,10 +45,13 @@ fn work_to(job: &mut Job, stripe: u32, count: u32) {
 fn an_open_job_has_done_nothing() {
     let (settings, tape, total) = cue();
     let mut picture = painted(&settings, AFTER);
-    let job = Job::open(&settings, &tape, &mut Workspace::new(), &mut picture, 8).unwrap();
+    let job = opened(&settings, &tape, &mut picture, 8);
     assert_eq!(job.total(), total);
-    assert_eq!(job.stripe_height(), 8);
     assert_eq!(job.stripes(), 6); // five of 8 rows, and one of 1
+    assert_eq!(
+        [1, 5, 6].map(|k| job.rows(k)),
+        [Some(8..16), Some(40..41), None]
+    );
     assert!((0..70).all(|stripe| job.done(stripe) == 0));
     let (cleared, after) = job.picture().split_at(48 * 41 * 4);
     assert!(cleared.iter().all(|&byte| byte == 0));
@@ -49,13 +63,9 @@ fn stripes_are_counted() {
     let stripes = |height, stripe_height| {
         let settings = plain(1, height);
         let mut picture = settings.new_picture();
-        let job = Job::open(
-            &settings,
-            &[],
-            &mut Workspace::new(),
-            &mut picture,
-            stripe_height,
-        );
+        let workspace = &mut Workspace::new();
+        let stripes = Stripes::of_height(height, stripe_height)?;
+        let job = Job::open(&settings, &[], workspace, &mut picture, &stripes);
         job.map(|job| job.stripes())
     };
     assert_eq!(stripes(64, 1), Ok(64));
@@ -72,7 +82,7 @@ fn work_draws_on_its_own_stripe_alone() {
     let (row, size) = (48 * 4, 48 * 41 * 4);
     for stripe in 0..6 {
         let mut picture = painted(&settings, AFTER);
-        let mut job = Job::open(&settings, &tape, &mut Workspace::new(), &mut picture, 8).unwrap();
+        let mut job = opened(&settings, &tape, &mut picture, 8);
         assert_eq!(job.work(&mut Workspace::new(), stripe, u32::MAX), Ok(total));
         let done = (0..64).filter(|&other| job.done(other) > 0);
         assert_eq!(done.collect::<Vec<u32>>(), [stripe]);
@@ -92,7 +102,7 @@ fn work_draws_on_its_own_stripe_alone() {
 fn a_budget_is_spent_until_nothing_is_left() {
     let (settings, tape, total) = cue();
     let mut picture = settings.new_picture();
-    let mut job = Job::open(&settings, &tape, &mut Workspace::new(), &mut picture, 16).unwrap();
+    let mut job = opened(&settings, &tape, &mut picture, 16);
     let mut work = |budget| job.work(&mut Workspace::new(), 1, budget);
     assert_eq!(work(0), Ok(0));
     assert_eq!(work(20), Ok(20));
@@ -109,10 +119,10 @@ fn a_job_stopped_anywhere_and_then_finished_is_draw() {
     let due = drawn(&settings, &tape);
     let mut random = Random(1);
     for stop in 0..60 {
-        let stripe_height = 1 + random.under(45);
+        let stripes = equal(&settings, 1 + random.under(45));
         let workspace = &mut Workspace::new();
         let mut first = painted(&settings, AFTER);
-        let mut job = Job::open(&settings, &tape, workspace, &mut first, stripe_height).unwrap();
+        let mut job = Job::open(&settings, &tape, workspace, &mut first, &stripes).unwrap();
         for _ in 0..stop {
             let stripe = random.under(job.stripes());
             let left = total - job.done(stripe);
@@ -121,7 +131,7 @@ fn a_job_stopped_anywhere_and_then_finished_is_draw() {
         }
 
         let mut second = painted(&settings, AFTER);
-        let mut other = Job::open(&settings, &tape, workspace, &mut second, stripe_height).unwrap();
+        let mut other = Job::open(&settings, &tape, workspace, &mut second, &stripes).unwrap();
         for stripe in 0..job.stripes() {
             work_to(&mut other, stripe, job.done(stripe));
         }
@@ -149,8 +159,8 @@ fn a_job_in_mode_1_is_one_of_replaced_letters() {
     let pictures = &mut [painted(&kept, AFTER), painted(&kept, AFTER)];
     let [one, other] = pictures;
     let workspace = &mut Workspace::new();
-    let mut one = Job::open(&replaced, &curly, workspace, one, 9).unwrap();
-    let mut other = Job::open(&kept, &plain, workspace, other, 9).unwrap();
+    let mut one = Job::open(&replaced, &curly, workspace, one, &equal(&replaced, 9)).unwrap();
+    let mut other = Job::open(&kept, &plain, workspace, other, &equal(&kept, 9)).unwrap();
     assert_eq!(one.total(), other.total());
     for _ in 0..one.total() {
         for stripe in 0..one.stripes() {
@@ -170,7 +180,8 @@ fn a_job_may_go_on_in_another_mode() {
     let tape = tape("\u{2013}\u{2013}");
     let workspace = &mut Workspace::new();
     let mut picture = painted(&kept, AFTER);
-    let mut job = Job::open(&kept, &tape, workspace, &mut picture, u32::MAX).unwrap();
+    let stripes = equal(&kept, u32::MAX);
+    let mut job = Job::open(&kept, &tape, workspace, &mut picture, &stripes).unwrap();
     assert_eq!(job.work(workspace, 0, 9), Ok(9)); // the first dash, which is a box
     let record = job.record();
     let mut job = Job::resume(&replaced, &tape, workspace, &mut picture, &record).unwrap();
@@ -185,7 +196,7 @@ fn strokes_one_by_one_change_the_picture_bit_by_bit() {
     let settings = plain(48, 16);
     let tape = tape("HHH");
     let mut picture = settings.new_picture();
-    let mut job = Job::open(&settings, &tape, &mut Workspace::new(), &mut picture, 16).unwrap();
+    let mut job = opened(&settings, &tape, &mut picture, 16);
     for letters in 1..=3 {
         let before = job.picture().to_vec();
         assert_eq!(job.work(&mut Workspace::new(), 0, 1), Ok(1));
@@ -204,7 +215,8 @@ fn strokes_go_to_letters_with_ink_alone() {
     let tape = tape("H H\u{1}\tH\u{AD}");
     let mut picture = settings.new_picture();
     let workspace = &mut Workspace::new();
-    let mut job = Job::open(&settings, &tape, workspace, &mut picture, 16).unwrap();
+    let stripes = equal(&settings, 16);
+    let mut job = Job::open(&settings, &tape, workspace, &mut picture, &stripes).unwrap();
     assert_eq!(job.total(), 3);
     for cell in [1, 3, 6] {
         let before = job.picture().to_vec();
@@ -224,7 +236,8 @@ fn counters_of_words_end_at_their_strokes() {
     let tape = tape("to be,\nor\tnot to\u{A0}be");
     let mut picture = painted(&settings, AFTER);
     let workspace = &mut Workspace::new();
-    let mut job = Job::open(&settings, &tape, workspace, &mut picture, 8).unwrap();
+    let stripes = equal(&settings, 8);
+    let mut job = Job::open(&settings, &tape, workspace, &mut picture, &stripes).unwrap();
     assert_eq!(job.total(), 14 * 9);
     for stripe in 0..job.stripes() {
         let done: Vec<_> = (0..19).map(|_| job.work(workspace, stripe, 7)).collect();
@@ -245,7 +258,8 @@ fn a_job_without_ink_has_no_strokes() {
         let lines = wrap(&tape, workspace, 9).expect("it is admitted");
         assert_eq!(lines[0].letters.len(), text.chars().count());
         let mut picture = painted(&settings, AFTER);
-        let mut job = Job::open(&settings, &tape, workspace, &mut picture, 8).unwrap();
+        let stripes = equal(&settings, 8);
+        let mut job = Job::open(&settings, &tape, workspace, &mut picture, &stripes).unwrap();
         assert_eq!(job.total(), 0);
         let done = (0..job.stripes()).map(|stripe| job.work(workspace, stripe, u32::MAX));
         assert_eq!(done.collect::<Vec<_>>(), vec![Ok(0); 6]);
@@ -267,7 +281,8 @@ fn as_many_lines_as_there_can_be() {
         let workspace = &mut Workspace::new();
         assert_eq!(wrap(&tape, workspace, 1).unwrap().len(), 4096);
         let mut picture = painted(&settings, AFTER);
-        let mut job = Job::open(&settings, &tape, workspace, &mut picture, 8).unwrap();
+        let stripes = equal(&settings, 8);
+        let mut job = Job::open(&settings, &tape, workspace, &mut picture, &stripes).unwrap();
         assert_eq!(job.total(), total);
         for stripe in 0..job.stripes() {
             assert_eq!(job.work(workspace, stripe, total - 1), Ok(total - 1));
@@ -284,7 +299,7 @@ fn as_many_lines_as_there_can_be() {
 fn refused_work_leaves_picture_and_counters() {
     let (settings, tape, _) = cue();
     let mut picture = painted(&settings, AFTER);
-    let mut job = Job::open(&settings, &tape, &mut Workspace::new(), &mut picture, 8).unwrap();
+    let mut job = opened(&settings, &tape, &mut picture, 8);
     work_to(&mut job, 3, 30);
     let before = job.picture().to_vec();
     for stripe in [6, 63, 64, 65, u32::MAX] {
@@ -307,32 +322,23 @@ fn refused_work_leaves_picture_and_counters() {
 fn a_refused_open_leaves_the_picture() {
     let settings = plain(20, 65);
     let mut picture = painted(&settings, AFTER);
-    let mut refused = |tape: &[u8], stripe_height| {
-        let job = Job::open(
-            &settings,
-            tape,
-            &mut Workspace::new(),
-            &mut picture,
-            stripe_height,
-        );
+    let mut refused = |tape: &[u8], stripes: Stripes| {
+        let workspace = &mut Workspace::new();
+        let job = Job::open(&settings, tape, workspace, &mut picture, &stripes);
         job.map(|job| job.total()).unwrap_err()
     };
+    // Those of a picture of another height.
+    for other in [64, 66, 0] {
+        assert_eq!(
+            refused(&[2, b'A'], Stripes::of_height(other, 8).unwrap()),
+            Refusal {
+                cause: Cause::StripesUnfit,
+                place: 0
+            }
+        );
+    }
     assert_eq!(
-        refused(&[2, b'A'], 0),
-        Refusal {
-            cause: Cause::StripesUnfit,
-            place: 0
-        }
-    );
-    assert_eq!(
-        refused(&[2, b'A'], 1),
-        Refusal {
-            cause: Cause::StripesUnfit,
-            place: 0
-        }
-    );
-    assert_eq!(
-        refused(&[2, b'A', 12], 2),
+        refused(&[2, b'A', 12], Stripes::of_height(65, 2).unwrap()),
         Refusal {
             cause: Cause::UnknownCommand,
             place: 2
@@ -354,7 +360,8 @@ fn the_most_strokes_are_counted() {
     let workspace = &mut Workspace::new();
     let mut picture = settings.new_picture();
     assert_eq!(draw(&settings, &tape, workspace, &mut picture), Ok(total));
-    let mut job = Job::open(&settings, &tape, workspace, &mut picture, 1).unwrap();
+    let stripes = equal(&settings, 1);
+    let mut job = Job::open(&settings, &tape, workspace, &mut picture, &stripes).unwrap();
     assert_eq!(job.total(), total);
     assert_eq!(job.work(workspace, 1, total - 1), Ok(total - 1));
     let record = job.record();

@@ -3,8 +3,8 @@
 mod common;
 
 use captions::raw::{self, Buffers, Record};
-use captions::{Cause, Job, Refusal, Result, Settings, Workspace, draw, wrap};
-use common::{PAINT, plain, tape};
+use captions::{Cause, Job, Refusal, Result, Settings, Stripes, Workspace, draw, wrap};
+use common::{PAINT, plain, record, tape};
 
 /// A tape at fault, why it is refused, and the place.
 fn faults() -> Vec<(Vec<u8>, Cause, usize)> {
@@ -35,13 +35,8 @@ fn faults() -> Vec<(Vec<u8>, Cause, usize)> {
 }
 
 fn job(settings: &Settings, tape: &[u8], picture: &mut [u8], stripe_height: u32) -> Result<u32> {
-    let job = Job::open(
-        settings,
-        tape,
-        &mut Workspace::new(),
-        picture,
-        stripe_height,
-    );
+    let stripes = Stripes::of_height(settings.height, stripe_height)?;
+    let job = Job::open(settings, tape, &mut Workspace::new(), picture, &stripes);
     job.map(|job| job.total())
 }
 
@@ -49,7 +44,8 @@ fn job(settings: &Settings, tape: &[u8], picture: &mut [u8], stripe_height: u32)
 fn refusals(settings: &Settings, tape: &[u8], bytes: usize) -> [Refusal; 2] {
     let mut picture = vec![PAINT; bytes];
     let drawn = draw(settings, tape, &mut Workspace::new(), &mut picture).unwrap_err();
-    let opened = job(settings, tape, &mut picture, 8).unwrap_err();
+    // In one stripe, which fits every height.
+    let opened = job(settings, tape, &mut picture, u32::MAX).unwrap_err();
     assert!(picture.iter().all(|&byte| byte == PAINT));
     [drawn, opened]
 }
@@ -137,15 +133,14 @@ fn number_8_a_house_setting() {
     for (with, most) in HOUSE {
         for end in [0, 1, most - 1, most] {
             assert_eq!(raw_draw(with(end), &[2, b'A'], 65_536), 1);
-            assert_eq!(raw_open(with(end), &[2, b'A'], 5), (1, Record::new(5)));
-            let work = raw_work_with(with(end), &mut Record::new(8), 65_536, 1);
+            assert_eq!(raw_open(with(end), &[2, b'A'], 5), (1, record(16, 5)));
+            let work = raw_work_with(with(end), &mut record(16, 8), 65_536, 1);
             assert_eq!(work, 1);
         }
         for over in [most + 1, most + 2, 256, 1 << 16, 1 << 31, u32::MAX] {
             // It comes before all else that is wrong.
             assert_eq!(raw_draw(with(over), &[12], 0), 8 << 32);
-            let zeros = Record::new(0);
-            assert_eq!(raw_open(with(over), &[12], 0), (8 << 32, zeros));
+            assert_eq!(raw_open(with(over), &[12], 0), (8 << 32, Record::ZEROS));
             let work = raw_work_with(with(over), &mut { ANY }, 0, u32::MAX);
             assert_eq!(work, 8 << 32);
         }
@@ -178,7 +173,7 @@ fn number_8_a_house_setting_by_the_wrapper() {
     ] {
         assert_eq!(refusals(&over, &[12], 0), [due; 2]);
         let (workspace, picture) = (&mut Workspace::new(), &mut [0; 8 * 8 * 4]);
-        let resumed = Job::resume(&over, &[], workspace, picture, &Record::new(8));
+        let resumed = Job::resume(&over, &[], workspace, picture, &record(8, 8));
         assert_eq!(resumed.map(|job| job.total()), Err(due));
     }
     for ends in [with(margin, slant, cap), with(0, 0, 0)] {
@@ -235,7 +230,8 @@ fn numbers_12_and_13_stripes() {
     assert_eq!(job(&settings, &[12], &mut picture, 0), Err(due));
     assert_eq!(job(&settings, &[12], &mut picture, 1), Err(due));
     let workspace = &mut Workspace::new();
-    let mut open = Job::open(&settings, &[], workspace, &mut picture, 2).unwrap();
+    let stripes = Stripes::of_height(65, 2).unwrap();
+    let mut open = Job::open(&settings, &[], workspace, &mut picture, &stripes).unwrap();
     assert_eq!(open.work(workspace, 32, 1), Ok(0));
     assert_eq!(
         open.work(workspace, 33, 1),
@@ -287,7 +283,8 @@ fn raw_open(settings: raw::Settings, tape: &[u8], stripe_height: u32) -> (u64, R
         workspace: &mut vec![PAINT; 65_536],
         picture: &mut picture,
     };
-    let answer = raw::open(&settings, buffers, stripe_height, &mut record);
+    let stripes = raw::Stripes::of_height(settings.height, stripe_height);
+    let answer = raw::open(&settings, buffers, &stripes, &mut record);
     let refused = answer >> 32 != 0;
     assert!(!refused || picture.iter().all(|&byte| byte == PAINT));
     (answer, record)
@@ -319,7 +316,8 @@ fn raw_work_with(settings: raw::Settings, record: &mut Record, room: usize, stri
 
 /// A record that no job has.
 const ANY: Record = Record {
-    stripe_height: u32::MAX,
+    count: u32::MAX,
+    ends: [u32::MAX; 64],
     counters: [u32::MAX; 64],
 };
 
@@ -328,7 +326,7 @@ fn number_11_a_short_workspace() {
     assert_eq!(raw_draw(PLAIN, &[2, b'A'], 65_536), 1);
     assert_eq!(raw_draw(PLAIN, &[2, b'A'], 65_535), 11 << 32);
     assert_eq!(raw_draw(PLAIN, &[12; 16_385], 0), 10 << 32);
-    assert_eq!(raw_work(&mut Record::new(8), 65_535, 0), 11 << 32);
+    assert_eq!(raw_work(&mut record(16, 8), 65_535, 0), 11 << 32);
     let mut workspace = vec![PAINT; 65_535];
     assert_eq!(raw::wrap(&[], &mut workspace, 4), 11 << 32);
     assert!(workspace.iter().all(|&byte| byte == PAINT));
@@ -337,23 +335,23 @@ fn number_11_a_short_workspace() {
 #[test]
 fn a_refused_raw_open_gives_zeros() {
     let open = |tape: &[u8], stripe_height| raw_open(PLAIN, tape, stripe_height);
-    assert_eq!(open(&[2, b'A'], 5), (1, Record::new(5)));
-    assert_eq!(open(&[2, b'A'], 0), (13 << 32, Record::new(0)));
-    assert_eq!(open(&[2, b'A', 6], 5), (3 << 32 | 3, Record::new(0)));
+    assert_eq!(open(&[2, b'A'], 5), (1, record(16, 5)));
+    assert_eq!(open(&[2, b'A'], 0), (13 << 32, Record::ZEROS));
+    assert_eq!(open(&[2, b'A', 6], 5), (3 << 32 | 3, Record::ZEROS));
 }
 
 #[test]
 fn number_14_a_record_that_no_job_has() {
-    assert_eq!(raw_work(&mut Record::new(8), 65_536, 1), 1);
-    assert_eq!(raw_work(&mut Record::new(0), 65_536, 0), 13 << 32);
-    assert_eq!(raw_work(&mut Record::new(8), 65_536, 2), 12 << 32);
-    let mut over = Record::new(8);
+    assert_eq!(raw_work(&mut record(16, 8), 65_536, 1), 1);
+    assert_eq!(raw_work(&mut { Record::ZEROS }, 65_536, 0), 13 << 32);
+    assert_eq!(raw_work(&mut record(16, 8), 65_536, 2), 12 << 32);
+    let mut over = record(16, 8);
     over.counters[0] = 2;
     assert_eq!(raw_work(&mut over, 65_536, 2), 14 << 32);
-    let mut past = Record::new(8);
+    let mut past = record(16, 8);
     past.counters[2] = 1;
     assert_eq!(raw_work(&mut past, 65_536, 0), 14 << 32);
-    assert_eq!(raw_work(&mut { ANY }, 65_536, u32::MAX), 14 << 32);
+    assert_eq!(raw_work(&mut { ANY }, 65_536, u32::MAX), 13 << 32);
 }
 
 #[test]
@@ -371,7 +369,7 @@ fn every_refusal_says_its_cause() {
         "16384 bytes",
         "workspace",
         "no such stripe",
-        "stripe height",
+        "ends do not rise",
         "counter",
         "unknown",
     ];

@@ -6,7 +6,7 @@ use captions::raw::{self, Buffers};
 use captions::{
     Cause, Job, RECORD_BYTES, Record, Refusal, Result, Settings, WORKSPACE_BYTES, Workspace, draw,
 };
-use common::{PAINT, Random, painted, plain, tape};
+use common::{PAINT, Random, equal, painted, plain, record, tape};
 
 const AFTER: usize = 8;
 
@@ -54,7 +54,8 @@ impl Stored {
 fn opened(settings: &Settings, tape: &[u8], stripe_height: u32) -> Stored {
     let workspace = &mut Workspace::new();
     let mut picture = painted(settings, AFTER);
-    let job = Job::open(settings, tape, workspace, &mut picture, stripe_height);
+    let stripes = equal(settings, stripe_height);
+    let job = Job::open(settings, tape, workspace, &mut picture, &stripes);
     Stored::of(&job.expect("it is admitted"))
 }
 
@@ -85,8 +86,9 @@ fn a_job_interrupted_anywhere_goes_on_as_if_it_had_never_stopped() {
         let stripe_height = 1 + random.under(45);
         let mut picture = painted(&settings, AFTER);
         let workspace = &mut Workspace::new();
+        let stripes = equal(&settings, stripe_height);
         let mut never_stopped =
-            Job::open(&settings, &tape, workspace, &mut picture, stripe_height).unwrap();
+            Job::open(&settings, &tape, workspace, &mut picture, &stripes).unwrap();
         let mut stored = opened(&settings, &tape, stripe_height);
         for stop in 0..12 {
             let seed = 1000 * seed + stop;
@@ -101,14 +103,11 @@ fn a_job_interrupted_anywhere_goes_on_as_if_it_had_never_stopped() {
         stored = stored.resumed(&settings, &tape, finish);
         assert_eq!(stored.picture, due, "seed {seed}");
         let record = Record::from_bytes(&stored.record);
-        let stripes = never_stopped.stripes() as usize;
-        assert_eq!(record.stripe_height, stripe_height);
-        assert!(
-            record.counters[..stripes]
-                .iter()
-                .all(|&count| count == total)
-        );
-        assert!(record.counters[stripes..].iter().all(|&count| count == 0));
+        let count = stripes.count() as usize;
+        assert_eq!(record.count, stripes.count());
+        assert_eq!(record.ends, Record::new(&stripes).ends);
+        assert!(record.counters[..count].iter().all(|&count| count == total));
+        assert!(record.counters[count..].iter().all(|&count| count == 0));
     }
 }
 
@@ -126,7 +125,8 @@ fn a_resumed_job_knows_its_strokes() {
                 let tape = tape(text);
                 let workspace = &mut Workspace::new();
                 let mut picture = settings.new_picture();
-                let job = Job::open(&settings, &tape, workspace, &mut picture, 5).unwrap();
+                let stripes = equal(&settings, 5);
+                let job = Job::open(&settings, &tape, workspace, &mut picture, &stripes).unwrap();
                 let (total, record) = (job.total(), job.record());
                 let job = Job::resume(&settings, &tape, workspace, &mut picture, &record);
                 assert_eq!(job.map(|job| job.total()), Ok(total));
@@ -140,12 +140,13 @@ fn a_record_says_how_far_a_job_is() {
     let (settings, tape, _) = cue();
     let mut picture = settings.new_picture();
     let workspace = &mut Workspace::new();
-    let mut job = Job::open(&settings, &tape, workspace, &mut picture, 8).unwrap();
-    assert_eq!(job.record(), Record::new(8));
+    let stripes = equal(&settings, 8);
+    let mut job = Job::open(&settings, &tape, workspace, &mut picture, &stripes).unwrap();
+    assert_eq!(job.record(), record(41, 8));
     job.work(workspace, 5, 7).unwrap();
     job.work(workspace, 0, 3).unwrap();
     job.work(workspace, 5, 1).unwrap();
-    let mut due = Record::new(8);
+    let mut due = record(41, 8);
     due.counters[0] = 3;
     due.counters[5] = 8;
     assert_eq!(job.record(), due);
@@ -153,14 +154,21 @@ fn a_record_says_how_far_a_job_is() {
 
 #[test]
 fn a_record_s_bytes_are_numbers_with_the_high_byte_first() {
-    let mut record = Record::new(0x0102_0304);
+    let mut record = Record {
+        count: 0x0102_0304,
+        ..Record::ZEROS
+    };
+    record.ends[0] = 0x0506_0708;
+    record.ends[63] = 9;
     record.counters[0] = 0xA0B0_C0D0;
     record.counters[63] = 5;
     let bytes = record.to_bytes();
-    assert_eq!(bytes.len(), 260);
-    assert_eq!(bytes[..8], [1, 2, 3, 4, 0xA0, 0xB0, 0xC0, 0xD0]);
-    assert!(bytes[8..259].iter().all(|&byte| byte == 0));
-    assert_eq!(bytes[259], 5);
+    assert_eq!(bytes.len(), 516);
+    assert_eq!(bytes[..8], [1, 2, 3, 4, 5, 6, 7, 8]);
+    assert_eq!(bytes[256..264], [0, 0, 0, 9, 0xA0, 0xB0, 0xC0, 0xD0]);
+    assert_eq!(bytes[512..], [0, 0, 0, 5]);
+    let between = [&bytes[8..256], &bytes[264..512]].concat();
+    assert!(between.iter().all(|&byte| byte == 0));
     assert_eq!(Record::from_bytes(&bytes), record);
 
     let random = &mut Random(7);
@@ -183,19 +191,24 @@ fn because<T>(cause: Cause) -> Result<T> {
     Err(Refusal { cause, place: 0 })
 }
 
+/// A record with this counter.
+fn counted(record: Record, stripe: usize, count: u32) -> Record {
+    let mut counted = record;
+    counted.counters[stripe] = count;
+    counted
+}
+
 /// The record of a job in stripes of 8 rows, with this counter.
 fn with_counter(stripe: usize, count: u32) -> Record {
-    let mut record = Record::new(8);
-    record.counters[stripe] = count;
-    record
+    counted(record(41, 8), stripe, count)
 }
 
 #[test]
 fn numbers_13_and_14_a_damaged_record() {
     let (settings, tape, total) = cue();
     let say = |record: &Record| refused(&settings, &tape, 48 * 41 * 4, record);
-    assert_eq!(say(&Record::new(8)), Ok(total));
-    assert_eq!(say(&Record::new(0)), because(Cause::StripesUnfit));
+    assert_eq!(say(&record(41, 8)), Ok(total));
+    assert_eq!(say(&record(41, 0)), because(Cause::StripesUnfit));
     assert_eq!(say(&with_counter(0, total)), Ok(total));
     assert_eq!(say(&with_counter(5, total)), Ok(total)); // the last stripe of 41 rows
     for record in [
@@ -209,7 +222,7 @@ fn numbers_13_and_14_a_damaged_record() {
     }
 
     let high = plain(1, 65);
-    let say = |stripe_height| refused(&high, &tape, 65 * 4, &Record::new(stripe_height));
+    let say = |stripe_height| refused(&high, &tape, 65 * 4, &record(65, stripe_height));
     assert_eq!(say(1), because(Cause::StripesUnfit));
     assert_eq!(say(2), Ok(5));
 }
@@ -265,14 +278,14 @@ fn a_record_of_another_tape_or_picture_is_refused_where_it_cannot_be() {
     };
     assert_eq!(
         refused(&lower, &tape, 48 * 41 * 4, &done),
-        because(Cause::CountersUnsound)
+        because(Cause::StripesUnfit)
     );
 }
 
 #[test]
 fn numbers_8_to_10_settings_and_lengths() {
     let (settings, tape, _) = cue();
-    let record = Record::new(8);
+    let record = record(41, 8);
     let size = 48 * 41 * 4;
     let say = |settings, tape: &[u8], bytes| refused(&settings, tape, bytes, &record);
     let wide = Settings {
@@ -306,9 +319,9 @@ fn numbers_1_to_7_a_tape_at_fault() {
     for (tape, cause, place) in faults {
         let say = |record: &Record| refused(&settings, tape, 48 * 41 * 4, record);
         let due = Err(Refusal { cause, place });
-        assert_eq!(say(&Record::new(8)), due);
-        // The stripe height comes before the tape, the counters after it.
-        assert_eq!(say(&Record::new(0)), because(Cause::StripesUnfit));
+        assert_eq!(say(&record(41, 8)), due);
+        // The stripes come before the tape, the counters after it.
+        assert_eq!(say(&record(41, 0)), because(Cause::StripesUnfit));
         assert_eq!(say(&with_counter(9, 1)), due);
     }
 }
@@ -326,19 +339,20 @@ fn without_rows() -> (Settings, Vec<u8>, u32) {
 fn a_picture_without_rows_has_its_records_too() {
     let (flat, tape, total) = without_rows();
     let say = |tape: &[u8], record: &Record| refused(&flat, tape, AFTER, record);
-    assert_eq!(say(&tape, &Record::new(1)), Ok(total));
-    assert_eq!(say(&tape, &Record::new(u32::MAX)), Ok(total));
-    let unfit = say(&tape, &Record::new(0));
-    assert_eq!(unfit, because(Cause::StripesUnfit));
+    assert_eq!(say(&tape, &Record::ZEROS), Ok(total));
+    for stripe_height in [0, 1, 8, u32::MAX] {
+        let unfit = say(&tape, &record(41, stripe_height));
+        assert_eq!(unfit, because(Cause::StripesUnfit));
+    }
     for stripe in [0, 1, 63] {
-        let unsound = say(&tape, &with_counter(stripe, 1));
+        let unsound = say(&tape, &counted(Record::ZEROS, stripe, 1));
         assert_eq!(unsound, because(Cause::CountersUnsound));
     }
     let due = Refusal {
         cause: Cause::UnknownCommand,
         place: 1,
     };
-    assert_eq!(say(&[5, 12], &Record::new(1)), Err(due));
+    assert_eq!(say(&[5, 12], &Record::ZEROS), Err(due));
 }
 
 /// There is no stripe, so nothing can be done.
@@ -356,7 +370,7 @@ fn a_job_without_rows_is_resumed() {
 
 /// A record of any numbers, most of them such that a job might have it.
 fn any_record(random: &mut Random, total: u32) -> Record {
-    let mut record = Record::new(random.under(50));
+    let mut record = record(41, random.under(50));
     for _ in 0..random.under(4) {
         let counter = &mut record.counters[random.under(12) as usize];
         *counter = random.under(total + 3);

@@ -31,6 +31,7 @@ static size_t tape_len;
 static uint8_t workspace[CAPTIONS_WORKSPACE_MIN];
 static uint8_t picture[SIDE * SIDE * 4];
 static captions_settings settings;
+static captions_stripes stripes;
 static captions_record record;
 static uint32_t column_limit;
 static uint64_t answer;
@@ -49,7 +50,7 @@ static void call_draw(void)
 static void call_open(void)
 {
     answer = captions_open(&settings, tape, tape_len, workspace, sizeof workspace,
-                           picture, sizeof picture, STRIPE_HEIGHT, &record);
+                           picture, sizeof picture, &stripes, &record);
 }
 
 static void call_work(void)
@@ -157,6 +158,7 @@ static void measure_tape(uint32_t width)
     settings.outline = CAPTIONS_OUTLINE_CAP_MAX;
     settings.slant = CAPTIONS_SLANT_MAX;
     settings.outline_cap = CAPTIONS_OUTLINE_CAP_MAX;
+    stripes = captions_stripes_of_height(SIDE, STRIPE_HEIGHT);
     column_limit = width / 8;
     for (size_t i = 0; i < CALLS; i++) {
         measure(&calls[i]);

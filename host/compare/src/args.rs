@@ -1,7 +1,8 @@
 //! The words of the command line.
 
 pub const USAGE: &str = "\
-usage: compare [--pictures N] [--tapes N] [--cues N] [--frames N] [--jobs N] [--house-frames N] [--seed S]
+usage: compare [--pictures N] [--tapes N] [--cues N] [--frames N] [--jobs N] [--house-frames N]
+               [--stripe-jobs N] [--seed S]
                                 compare the proved crates with the original
        compare specimen         write what the original draws for U+0000 to U+0100
        compare sample           write the tapes that the program `letters` reads
@@ -36,6 +37,7 @@ pub struct Extent {
     pub frames: u64,
     pub jobs: u64,
     pub house_frames: u64,
+    pub stripe_jobs: u64,
     pub seed: u64,
 }
 
@@ -59,6 +61,7 @@ pub fn parse(words: &[String]) -> Option<Command> {
         frames: 200_000,
         jobs: 50_000,
         house_frames: 100_000,
+        stripe_jobs: 50_000,
         seed: 1,
     };
     let (pairs, rest) = words.as_chunks::<2>();
@@ -70,6 +73,7 @@ pub fn parse(words: &[String]) -> Option<Command> {
             "--frames" => extent.frames = value.parse().ok()?,
             "--jobs" => extent.jobs = value.parse().ok()?,
             "--house-frames" => extent.house_frames = value.parse().ok()?,
+            "--stripe-jobs" => extent.stripe_jobs = value.parse().ok()?,
             "--seed" => extent.seed = value.parse().ok()?,
             _ => return None,
         }

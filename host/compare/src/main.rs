@@ -14,6 +14,7 @@ mod proved;
 mod random;
 mod refusal;
 mod sample;
+mod stripes;
 mod tape;
 mod timing;
 mod work;
@@ -76,6 +77,7 @@ fn compare(original: &Original, extent: Extent) -> ExitCode {
     counts.extend(draw::compare(original, seed, extent.frames));
     counts.extend(work::compare(original, seed, extent.jobs));
     counts.extend(house::compare(original, seed, extent.house_frames));
+    counts.extend(stripes::compare(original, seed, extent.stripe_jobs));
     let (mut passed, mut failed) = (0, 0);
     for count in &counts {
         count.show();

@@ -3,12 +3,13 @@
 use crate::draw::settings::Settings;
 use crate::refusal::{self, Refusal};
 pub use captions::raw::Buffers;
-use captions::raw::{self, Record};
+use captions::raw::{self, Record, Stripes};
 
 /// What Open or Work is asked for.
 #[derive(Clone, Copy, Debug)]
+#[expect(clippy::large_enum_variant, reason = "there is one at a time")]
 pub enum Ask {
-    Open { stripe_height: u32 },
+    Open { stripes: Stripes },
     Work { stripe: u32, budget: u32 },
 }
 
@@ -26,7 +27,7 @@ pub fn ask(
 ) -> Result<usize, Refusal> {
     let settings = &raw(settings);
     refusal::halves(match ask {
-        Ask::Open { stripe_height } => raw::open(settings, buffers, stripe_height, record),
+        Ask::Open { stripes } => raw::open(settings, buffers, &stripes, record),
         Ask::Work { stripe, budget } => raw::work(settings, buffers, record, stripe, budget),
     })
 }

@@ -52,7 +52,7 @@ const FOR_PLAYERS: [Chapter; 6] = [
 ];
 
 /// What stands behind the examples.
-const BEHIND: [Chapter; 16] = [
+const BEHIND: [Chapter; 17] = [
     ("Positions in signed numbers", "compositor", &["Plain"]),
     ("From segments to tapes", "tape", &["Segments"]),
     ("What lines keep", "wrap", &["Shown"]),
@@ -60,6 +60,7 @@ const BEHIND: [Chapter; 16] = [
     ("Glyph mode 1 by mode 0", "compositor", &["Replaced"]),
     ("Letters without ink", "compositor", &["Inkless"]),
     ("House settings", "compositor", &["House"]),
+    ("Stripes by their ends", "job", &["Ends"]),
     ("What a call answers and leaves", "tape", &["Call"]),
     ("What a call answers and leaves", "wrap", &["Wrapped"]),
     ("What a call answers and leaves", "compositor", &["Drawn"]),
@@ -186,9 +187,10 @@ fn shown_part<'a>(
             continue;
         }
         let declaration = declared::show(root, of, path)?;
-        earlier.extend(shown.iter().filter(|declared| declared.is_in(&declaration)));
-        declarations += &declaration;
         let part = part.source.file;
+        let taken = |declared: &&Declared| declared.part != part && declared.is_in(&declaration);
+        earlier.extend(shown.iter().filter(taken));
+        declarations += &declaration;
         shown.push(Declared { of, path, part });
     }
     Ok(part.text(&declarations, &earlier))

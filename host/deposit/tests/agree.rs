@@ -130,15 +130,16 @@ fn the_order_of_refusals() {
 }
 
 /// The files that docs/DEFINITIONS.md quotes from, and what it has to quote.
-const SPECS: [&str; 6] = [
+const SPECS: [&str; 7] = [
     "crates/font/specs/Upward.antt",
     "crates/compositor/specs/Replaced.antt",
     "crates/compositor/specs/Inkless.antt",
     "crates/compositor/specs/House.antt",
     "crates/job/specs/History.antt",
+    "crates/job/specs/Ends.antt",
     "crates/captions/specs/HistoryInC.antt",
 ];
-const QUOTED: [&str; 13] = [
+const QUOTED: [&str; 15] = [
     "DrawnUpward",
     "RowsFromTheBottom",
     "DrawnReplaced",
@@ -150,6 +151,8 @@ const QUOTED: [&str; 13] = [
     "PartlyDrawn",
     "Demand3",
     "Possible",
+    "EqualStripes",
+    "StripesByEnds",
     "HistoryInC",
     "Demand3InC",
 ];

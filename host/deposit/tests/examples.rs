@@ -1,10 +1,11 @@
 //! The examples of the deposit are what the proved library gives.
 //!
-//! An example is indented, and begins with a limit or with settings. Its lines say what is asked; what
-//! comes of it stands behind a comma, or in the lines below, and is made anew here.
+//! An example is indented, and begins with a limit, with settings or with stripes of one height. Its
+//! lines say what is asked; what comes of it stands behind a comma, or in the lines below, and is made
+//! anew here.
 
 use captions::WORKSPACE_BYTES;
-use captions::raw::{self, Buffers, Record, Settings};
+use captions::raw::{self, Buffers, Record, Settings, Stripes};
 use std::path::Path;
 
 /// The lines of each example, without their indentation.
@@ -18,7 +19,8 @@ fn examples(text: &str) -> Vec<Vec<&str>> {
     }
     let asked = |example: &Vec<&str>| {
         let first = example.first().copied().unwrap_or_default();
-        first.starts_with("limit ") || first.starts_with("settings ")
+        let words = ["limit ", "settings ", "equal "];
+        words.iter().any(|word| first.starts_with(word))
     };
     examples.retain(asked);
     examples
@@ -35,10 +37,10 @@ fn number(word: &str) -> u32 {
 }
 
 /// What words stand for, so many times where that is said, and then others.
-fn repeated<T: Clone>(words: &str, of: impl Fn(&str) -> T) -> Vec<T> {
+fn repeated<T: Clone>(words: &str, of: impl Fn(&str) -> Vec<T>) -> Vec<T> {
     let one = |words: &str| {
         let (words, times) = words.split_once(", ").unwrap_or((words, "1 times"));
-        let things: Vec<T> = words.split_whitespace().map(&of).collect();
+        let things = of(words);
         let times = number(times.trim_end_matches(" times")) as usize;
         (0..times).flat_map(move |_| things.clone())
     };
@@ -46,9 +48,51 @@ fn repeated<T: Clone>(words: &str, of: impl Fn(&str) -> T) -> Vec<T> {
 }
 
 fn tape(words: &str) -> Vec<u8> {
-    repeated(words, |byte| {
-        u8::from_str_radix(byte, 16).expect("bytes are hexadecimal")
-    })
+    let byte = |word: &str| u8::from_str_radix(word, 16).expect("bytes are hexadecimal");
+    repeated(words, |words| words.split_whitespace().map(byte).collect())
+}
+
+/// Numbers, of which `A to B` are all from A on up to B.
+fn numbers(words: &str) -> Vec<u32> {
+    let mut numbers = Vec::new();
+    let mut words = words.split_whitespace();
+    while let Some(word) = words.next() {
+        match (word, numbers.last().copied()) {
+            ("to", Some(first)) => {
+                let last = words.next().expect("a row of numbers has an end");
+                numbers.extend(first + 1..=number(last));
+            }
+            _ => numbers.push(number(word)),
+        }
+    }
+    numbers
+}
+
+/// The same in words, where there are many.
+fn in_words(numbers: &[u32]) -> String {
+    let is_next = |one: &u32, other: &u32| numbers.len() > MANY && one + 1 == *other;
+    let words = numbers.chunk_by(is_next).map(|run| match run {
+        [first, _, .., last] => format!(" {first} to {last}"),
+        few => few.iter().map(|number| format!(" {number}")).collect(),
+    });
+    words.collect()
+}
+
+/// So many numbers as a struct has, those that are not told 0.
+fn filled(told: impl IntoIterator<Item = u32>) -> [u32; 64] {
+    let mut told = told.into_iter();
+    let filled = std::array::from_fn(|_| told.next().unwrap_or_default());
+    assert_eq!(told.next(), None, "there are 64 places");
+    filled
+}
+
+/// A count, and then ends.
+fn stripes(words: &str) -> Stripes {
+    let mut numbers = numbers(words).into_iter();
+    Stripes {
+        count: numbers.next().expect("stripes have a count"),
+        ends: filled(numbers),
+    }
 }
 
 /// The number behind a word, where an example has it.
@@ -117,12 +161,13 @@ fn lines(example: &[&str], limit: u32) -> String {
     text + &format!("bytes{}\n", bytes.collect::<String>())
 }
 
-/// More counters are written as tapes are.
+/// More counters are written as tapes are, and more ends by their first and last.
 const MANY: usize = 32;
 
 /// What a record holds before Open writes it.
 const ANY: Record = Record {
-    stripe_height: 7,
+    count: 7,
+    ends: [7; 64],
     counters: [7; 64],
 };
 
@@ -176,19 +221,22 @@ impl Drawing {
         answer("strokes", drawn) + "\n"
     }
 
-    fn open(&mut self, height: &str) -> String {
-        let rows = number(height);
+    fn open(&mut self, words: &str) -> String {
+        let stripes = stripes(words);
         let opened =
-            self.call(|settings, buffers, record| raw::open(settings, buffers, rows, record));
-        format!("stripes {height}, {}\n", answer("strokes", opened))
+            self.call(|settings, buffers, record| raw::open(settings, buffers, &stripes, record));
+        format!("stripes {words}, {}\n", answer("strokes", opened))
     }
 
     /// Begins with a record that no Open gave.
     fn set_record(&mut self, words: &str) -> String {
-        let mut numbers = repeated(words, number).into_iter();
-        self.record = Record::new(numbers.next().expect("a record has a stripe height"));
-        let places = self.record.counters.iter_mut().zip(numbers);
-        places.for_each(|(place, number)| *place = number);
+        let (ends, counters) = words.split_once(" counters ").unwrap_or((words, ""));
+        let Stripes { count, ends } = stripes(ends);
+        self.record = Record {
+            count,
+            ends,
+            counters: filled(repeated(counters, numbers)),
+        };
         format!("record {words}\n")
     }
 
@@ -211,17 +259,10 @@ impl Drawing {
     /// The counters of the stripes that there are, and others up to the last that is not 0.
     fn counters(&self) -> String {
         let Record {
-            stripe_height,
-            counters,
+            count, counters, ..
         } = &self.record;
-        let stripes = match stripe_height {
-            0 => 0,
-            rows => counters
-                .len()
-                .min(self.settings.height.div_ceil(*rows) as usize),
-        };
-        let last = counters.iter().rposition(|counter| *counter != 0);
-        let shown = &counters[..stripes.max(last.map_or(0, |last| last + 1))];
+        let stripes = counters.len().min(*count as usize);
+        let shown = &counters[..stripes.max(told_places(counters))];
         if shown.len() > MANY {
             let runs = shown.chunk_by(|a, b| a == b);
             let runs = runs.map(|run| match run {
@@ -241,9 +282,10 @@ impl Drawing {
         format!("sum {sum}\n")
     }
 
-    /// The record's stripe height.
-    fn height(&self) -> String {
-        format!("height {}\n", self.record.stripe_height)
+    /// The record's count, and its ends up to the last that is not 0.
+    fn ends(&self) -> String {
+        let Record { count, ends, .. } = &self.record;
+        format!("ends {count}{}\n", in_words(&ends[..told_places(ends)]))
     }
 
     /// The bytes after the picture.
@@ -269,6 +311,22 @@ impl Drawing {
     }
 }
 
+/// How many places there are up to the last that is not 0.
+fn told_places(places: &[u32]) -> usize {
+    let last = places.iter().rposition(|number| *number != 0);
+    last.map_or(0, |last| last + 1)
+}
+
+/// The ends of stripes of one height: how many they are, and as many as have a place.
+fn equal(words: &str) -> String {
+    let [stripe_height, height] = numbers(words)[..] else {
+        panic!("a stripe has a height, and a picture");
+    };
+    let Stripes { count, ends } = Stripes::of_height(height, stripe_height);
+    let shown = &ends[..ends.len().min(count as usize)];
+    format!("equal {words}, ends {count}{}\n", in_words(shown))
+}
+
 /// What is asked in a line, without what comes of it.
 fn question(line: &str) -> &str {
     line.split(',').next().unwrap_or_default()
@@ -282,7 +340,7 @@ fn drawn(example: &[&str]) -> String {
         &behind(example, "stripes")[..],
         &behind(example, "record")[..],
     ) {
-        ([height], _) => drawing.open(question(height)),
+        ([words], _) => drawing.open(question(words)),
         (_, [record]) => drawing.set_record(record),
         _ => drawing.draw(),
     };
@@ -294,8 +352,8 @@ fn drawn(example: &[&str]) -> String {
         text += &drawing.counters();
     }
     let is_told = |word| !behind(example, word).is_empty();
-    if is_told("height") {
-        text += &drawing.height();
+    if is_told("ends") {
+        text += &drawing.ends();
     }
     if is_told("sum") {
         text += &drawing.sum();
@@ -315,9 +373,10 @@ fn answered(example: &[&str]) -> String {
     let is_asked = |line: &&&str| asked.contains(&line.split(' ').next().unwrap_or(""));
     let lines_asked = example.iter().filter(is_asked);
     let text = lines_asked.fold(String::new(), |text, line| text + line + "\n");
-    text + &match behind(example, "limit")[..] {
-        [limit] => lines(example, number(limit)),
-        _ => drawn(example),
+    text + &match (&behind(example, "limit")[..], &behind(example, "equal")[..]) {
+        ([limit], _) => lines(example, number(limit)),
+        (_, []) => drawn(example),
+        (_, words) => words.iter().map(|words| equal(question(words))).collect(),
     }
 }
 

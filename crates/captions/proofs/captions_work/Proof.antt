@@ -39,9 +39,10 @@ same-length-2 c = search needs
 returns : tie.Need-returns
 returns c =
     let words = c .before in
+    let after-work = words .before .before .before .before .before .before in
     record {
-      answer = words .before .before .before .before .before .before .work .result .answer;
-      does = rw (words .words-of .ensures) (worked (words .before .before .before .before .before .before));
+      answer = after-work .work .result .answer;
+      does = rw (words .words-of .ensures) (worked after-work);
       packs = c .packed .ensures;
     }
 

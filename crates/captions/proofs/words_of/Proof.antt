@@ -1,79 +1,71 @@
-use mathlib.Core.Path.{_≡_, _∙_, refl}
-use Prim.Native.Nat.{_+_, _-_, _≤_}
+use mathlib.Core.Path.{_≡_, _∙_, refl, ap}
+use mathlib.Core.List.{List, _∷_, _++_}
+use Prim.Native.Nat.{ℕ, _≤_}
 use native.Mathlib.Omega.{arith}
-use lib.ListN.{length, getD, set, replicate}
-use lib.Seq.{paste, paste-zero}
-use Rattle.captions.proofs.Records.{copied, put}
+use lib.ListN.{length, replicate, length-append}
+use Rattle.job.specs.Stripes.{mostStripes}
+use Rattle.captions.specs.Interface.{recordOf}
+use Rattle.captions.proofs.Records.{behind, there-and-back}
 use borrow.Author.Needs.{needs}
 use Rattle.captions.proofs.words_of.Statement.{statement}
 use Rattle.captions.proofs.words_of.Tie as tie
 
-abbrev Inv-loop : tie.InvT-loop
-Inv-loop job words₀ k₀ words k = (k ≤ 64) × (words ≡ paste (set (replicate 65 0) 0 (job .«stripe_height»)) 1 (job .counters) k)
+-- the record has 64 entries
+all : (c : tie.Start) → length (c .args .job .stripes .«end_rows») ≡ mostStripes
+all c = search needs
 
-abbrev μ-loop : tie.MeasureT-loop
-μ-loop job words₀ k₀ words k = 64 - k
-
-array-write-words : tie.Need-array-write-words Inv-loop μ-loop
+array-write-words : tie.Need-array-write-words
 array-write-words c = search needs
 
-loop-holds : tie.Need-loop-holds Inv-loop μ-loop
-loop-holds c = (omega arith, paste-zero (set (replicate 65 0) 0 (c .args .t1 .«stripe_height»)) 1 (c .args .t1 .counters))
+sub-put : tie.Need-sub-put
+sub-put c = search needs
 
-mul-words : tie.Need-mul-words Inv-loop μ-loop
-mul-words c = search needs
+part-words-start : tie.Need-part-words-start
+part-words-start c = search needs
 
-element-copy-out-words : tie.Need-element-copy-out-words Inv-loop μ-loop
-element-copy-out-words c = search needs
+part-words-end : tie.Need-part-words-end
+part-words-end c = search needs
 
-add-words : tie.Need-add-words Inv-loop μ-loop
-add-words c = omega arith
+put-requires : tie.Need-put-requires
+put-requires c κs = search needs
 
-mul-words-2 : tie.Need-mul-words-2 Inv-loop μ-loop
-mul-words-2 c = omega arith
+sub-put-2 : tie.Need-sub-put-2
+sub-put-2 c = search needs
 
-array-write-words-2 : tie.Need-array-write-words-2 Inv-loop μ-loop
-array-write-words-2 c = omega arith
+part-words-start-2 : tie.Need-part-words-start-2
+part-words-start-2 c = search needs
 
-add-k : tie.Need-add-k Inv-loop μ-loop
-add-k c = omega arith
+part-words-end-2 : tie.Need-part-words-end-2
+part-words-end-2 c =
+    let ends = c .before .put .last .0 in
+    let long : length ends ≡ mostStripes = ap length (c .before .put .ensures) ∙ all (c .before .before .before .before .before .before) in
+    let sum = length-append ends (replicate mostStripes 0) in
+    let enough : 129 ≤ length (0 ∷ (ends ++ replicate mostStripes 0)) = omega arith in
+    enough
 
-loop-less : tie.Need-loop-less Inv-loop μ-loop
-loop-less c = omega arith
+put-requires-2 : tie.Need-put-requires-2
+put-requires-2 c κs = search needs
 
-loop-again : tie.Need-loop-again Inv-loop μ-loop
-loop-again c =
-    let start = c .before .before .before in
-    let l = c .before .before .loop in
-    let job = start .args .t1 in
-    let h = c .before .loop-test .taken in
-    let all : length (job .counters) ≡ 64 = search needs in (
-      omega arith,
-      rw (l .inv .1)
-          (copied (set (replicate 65 0) 0 (job .«stripe_height»)) 1 (job .counters) (l .k) (l .k + 1) (getD (job .counters) (l .k) 0) (omega arith) (omega arith) (omega arith) refl),
-    )
-
-returns : tie.Need-returns Inv-loop μ-loop
+returns : tie.Need-returns
 returns c =
-    let l = c .before .loop in
-    let job = c .before .before .args .t1 in
-    let all : length (job .counters) ≡ 64 = search needs in
-    l .inv .1 ∙ put (replicate 65 0) (job .counters) (l .k) (job .«stripe_height») refl all (omega arith)
+    let after-put = c .before .before .before .before in
+    let start = after-put .before .before .before .before .before in
+    let job = start .args .job in
+    rw (after-put .put .ensures, c .before .put2 .ensures)
+    (ap (λ (l : List ℕ). recordOf (job .stripes .«stripe_count» ∷ l)) (behind (job .stripes .«end_rows») (job .counters) (replicate mostStripes 0) (all start) refl)
+    ∙ there-and-back job (all start))
 
 pub words-of-spec : {M : Type 1} → statement M
 words-of-spec =
     tie.close
     (tie.spec
-    Inv-loop
-    μ-loop
     array-write-words
-    loop-holds
-    mul-words
-    element-copy-out-words
-    add-words
-    mul-words-2
-    array-write-words-2
-    add-k
-    loop-less
-    loop-again
+    sub-put
+    part-words-start
+    part-words-end
+    put-requires
+    sub-put-2
+    part-words-start-2
+    part-words-end-2
+    put-requires-2
     returns)

@@ -5,9 +5,11 @@ use native.Mathlib.Omega.{arith}
 use lib.ListN.{length, drop, replicate}
 use Rattle.tape.proofs.Calls.{refuses, accepts}
 use Rattle.compositor.specs.Ready.{CueRead}
-use Rattle.compositor.proofs.AcceptedCalls.{cue-range, cue-fits}
+use Rattle.compositor.proofs.AcceptedCalls.{cue-range, cue-fits, cue-extra}
 use Rattle.job.specs.declared.JobRecord.{JobRecord}
+use Rattle.job.specs.Stripes.{divisionOf}
 use Rattle.job.specs.Work.{openCall}
+use Rattle.job.proofs.Division.{stripes-few}
 use borrow.Author.Needs.{needs}
 use Rattle.job.proofs.open.Statement.{statement}
 use Rattle.job.proofs.open.Tie as tie
@@ -15,7 +17,7 @@ use Rattle.job.proofs.open.Tie as tie
 -- the tape was read
 read : (q : tie.After-read-cue) →
     let a = q .before .before .before .before .before .before .args in
-    CueRead (a .s) (openCall (a .s) (length (a .ws .now)) (length (a .picture .now)) (a .tape .now) (a .stripe-height))
+    CueRead (a .s) (openCall (a .s) (length (a .ws .now)) (length (a .picture .now)) (a .tape .now) (divisionOf (a .stripes)))
     (a .ws .now) (q .read-cue .last .1 .1 .0) (q .read-cue .result)
 read q = rw (q .before .before .fault .ensures) at (q .read-cue .ensures)
 
@@ -41,7 +43,10 @@ clear-requires c κs =
     omega (arith, fits, c .before .picture-bytes .ensures)
 
 new-requires : tie.Need-new-requires
-new-requires c κs = search needs
+new-requires c κs =
+    let after-total = c .before .before .before .before .before .before in
+    let r = rw (after-total .total .given .1) at (read (after-total .before .before .before .before)) in
+    stripes-few _ _ (cue-extra _ _ _ _ _ (r .means))
 
 enum-known-number : tie.Need-enum-known-number
 enum-known-number c = search needs

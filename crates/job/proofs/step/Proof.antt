@@ -1,15 +1,15 @@
 use Prim.Native.Nat.{_+_, _≤_, _<_}
 use native.Mathlib.Omega.{arith}
 use Rattle.compositor.specs.Ready.{mostStrokes}
-use Rattle.job.specs.Stripes.{divisionOf, counterOf, withCounter}
-use Rattle.job.proofs.Division.{some-rows, stripe-low, first-there}
+use Rattle.job.specs.Stripes.{mostStripes, counterOf, withCounter}
+use Rattle.job.proofs.Division.{stripe-low}
 use Rattle.job.proofs.CallWork.{did-step}
 use borrow.Author.Needs.{needs}
 use Rattle.job.proofs.step.Statement.{statement}
 use Rattle.job.proofs.step.Tie as tie
 
 -- the stripe has one of the record's counters
-low : (c : tie.Start) → c .args .k < 64
+low : (c : tie.Start) → c .args .k < mostStripes
 low c = stripe-low _ _ (c .pre .workable .stripes) (c .args .k) (c .pre .there)
 
 -- the strokes that are then done are a caption's
@@ -40,11 +40,10 @@ add-after : tie.Need-add-after
 add-after c = search needs
 
 draw-stripe-requires : tie.Need-draw-stripe-requires
-unfolding divisionOf
 draw-stripe-requires c κs =
-    let start = c .before .before .before .before .before in
+    let start = c .before .before .before .before .before .before in
     let w = start .pre .workable in
-    (w .range, w .fits, w .lined, first-there _ _ _ (start .pre .there), some-rows _ _ (w .stripes))
+    (w .range, w .fits, w .lined, w .stripes, start .pre .there)
 
 add-after-2 : tie.Need-add-after-2
 add-after-2 c = search needs
@@ -53,18 +52,18 @@ cast-after : tie.Need-cast-after
 cast-after c = search needs
 
 mul-after : tie.Need-mul-after
-mul-after c = let k = low (c .before .before .before .before .before .before .before .before) in omega arith
+mul-after c = let k = low (c .before .before .before .before .before .before .before .before .before) in omega arith
 
 element-write-after : tie.Need-element-write-after
-element-write-after c = low (c .before .before .before .before .before .before .before .before)
+element-write-after c = low (c .before .before .before .before .before .before .before .before .before)
 
 same-length : tie.Need-same-length
 same-length c = search needs
 
 returns : tie.Need-returns
-unfolding divisionOf withCounter
+unfolding withCounter
 returns c =
-    let after-least = c .before .before .before .before in
+    let after-least = c .before .before .before .before .before in
     let start = after-least .before .before .before .before in
     let a = start .args in
     let total = start .pre .workable .counts in

@@ -10,10 +10,9 @@ use Rattle.job.proofs.work.Tie as tie
 
 -- the tape was read
 read : (q : tie.After-read-cue) →
-    let a = q .before .before .before .before .before .before .args in
-    CueRead (a .s) (openCall (a .s) (length (a .ws .now)) (length (a .picture .now)) (a .tape .now) (divisionOf (a .job)))
+    let a = q .before .before .before .before .before .before .before .args in
+    CueRead (a .s) (openCall (a .s) (length (a .ws .now)) (length (a .picture .now)) (a .tape .now) (divisionOf (a .job .stripes)))
     (a .ws .now) (q .read-cue .last .1 .1 .0) (q .read-cue .result)
-unfolding divisionOf
 read q = rw (q .before .before .fault .ensures) at (q .read-cue .ensures)
 
 fault-requires : tie.Need-fault-requires

@@ -2,56 +2,73 @@ use mathlib.Core.Path.{_≡_, _∙_, sym}
 use mathlib.Core.Bool.{true, false}
 use Prim.Native.Nat.{_≤_}
 use native.Mathlib.Omega.{arith}
-use borrow.Author.Tests.{not-true, not-false}
+use borrow.Author.Tests.{lt-ltb, le-ltb}
 use lib.ListN.{length}
 use Rattle.compositor.specs.Read.{strokesIn}
-use Rattle.job.specs.Stripes.{hasStripe, divisionOf, counterOf, countersUnsound}
-use Rattle.job.proofs.Division.{stripe-low, counter-small}
+use Rattle.job.specs.Stripes.{mostStripes, hasStripe, divisionOf, counterOf, countersUnsound}
+use Rattle.job.proofs.Division.{stripes-few, stripe-low, all-counted, counter-small}
 use Rattle.job.proofs.CallWork.{unsound, no-stripe, did-work}
 use borrow.Author.Needs.{needs}
 use Rattle.job.proofs.work_laid.Statement.{statement}
 use Rattle.job.proofs.work_laid.Tie as tie
 
+few : (c : tie.Start) → length (divisionOf (c .args .job .stripes)) ≤ mostStripes
+few c = stripes-few (c .args .s) _ (c .pre .stripes)
+
+-- the record has as many stripes as it counts, and 64 counters
+counted : (c : tie.Start) → length (divisionOf (c .args .job .stripes)) ≡ c .args .job .stripes .«stripe_count»
+counted c =
+    let g = c .good .1 .1 .1 .1 .1 .0 in
+    let long : length (c .args .job .stripes .«end_rows») ≡ mostStripes = search needs in
+    all-counted (c .args .job .stripes) long (few c)
+
+long : (c : tie.Start) → length (c .args .job .counters) ≡ mostStripes
+long c = let g = c .good .1 .1 .1 .1 .1 .0 in search needs
+
 -- the record is sound
 sound : (c : tie.Else1) →
     let a = c .before .before .before .before .args in
-    countersUnsound (a .s) (divisionOf (a .job)) (length (strokesIn (a .s) (a .ws .now) (a .lines))) 0 (a .job .counters) ≡ false
+    countersUnsound (divisionOf (a .job .stripes)) (length (strokesIn (a .s) (a .ws .now) (a .lines))) 0 (a .job .counters) ≡ false
 sound c =
     let start = c .before .before .before .before in
     rw (← start .pre .counts) (sym (c .before .is-unsound .ensures) ∙ c .if1 .left)
 
 -- the stripe is there, and its counter is small enough
-there : (c : tie.Else2) → let a = c .before .before .before .before .before .before .args in hasStripe (a .s) (divisionOf (a .job)) (a .stripe) ≡ true
-unfolding divisionOf
-there c = sym (c .before .has-stripe .ensures) ∙ not-false _ (c .if2 .left)
+there : (c : tie.Else2) →
+    let a = c .before .before .before .before .before .before .args in
+    hasStripe (divisionOf (a .job .stripes)) (a .stripe) ≡ true
+unfolding hasStripe
+there c =
+    let start = c .before .before .before .before .before .before in
+    let a = start .args in
+    lt-ltb (a .stripe) (length (divisionOf (a .job .stripes))) (omega (arith, counted start, c .if2 .left))
 
-long : (c : tie.Start) → length (c .args .job .counters) ≡ 64
-long c = let g = c .good .1 .1 .1 .1 .1 .0 in search needs
-
-small : (c : tie.Else2) → let a = c .before .before .before .before .before .before .args in counterOf (a .job) (a .stripe) ≤ a .total
+small : (c : tie.Else2) →
+    let a = c .before .before .before .before .before .before .args in
+    counterOf (a .job) (a .stripe) ≤ a .total
 small c =
     let start = c .before .before .before .before .before .before in
     let a = start .args in
     let k = stripe-low (a .s) _ (start .pre .stripes) (a .stripe) (there c) in
     let n = long start in
-    rw (start .pre .counts) (counter-small (a .s) _ _ (a .job .counters) (a .stripe) (sound (c .before .before)) (omega arith) (there c))
+    rw (start .pre .counts) (counter-small _ _ (a .job .counters) (a .stripe) (sound (c .before .before)) (omega arith) (there c))
 
 is-unsound-requires : tie.Need-is-unsound-requires
-is-unsound-requires c κs = search needs
+is-unsound-requires c κs = few (c .before .before)
 
 returns : tie.Need-returns
 returns c =
     let start = c .before .before .before .before in
     unsound (start .args .s) _ _ _ _ _ _ (rw (← start .pre .counts) (sym (c .before .is-unsound .ensures) ∙ c .if1 .taken))
 
-has-stripe-requires : tie.Need-has-stripe-requires
-has-stripe-requires c κs = search needs
-
 returns-2 : tie.Need-returns-2
-unfolding divisionOf
+unfolding hasStripe
 returns-2 c =
-    let start = c .before .before .before .before .before .before in
-    no-stripe (start .args .s) _ _ _ _ _ _ (sound (c .before .before)) (sym (c .before .has-stripe .ensures) ∙ not-true _ (c .if2 .taken))
+    let else1 = c .before .before in
+    let start = else1 .before .before .before .before in
+    let a = start .args in
+    no-stripe (a .s) _ _ _ _ _ _ (sound else1)
+    (le-ltb (a .stripe) (length (divisionOf (a .job .stripes))) (omega (arith, counted start, c .if2 .taken)))
 
 step-requires : tie.Need-step-requires
 step-requires c κs =
@@ -74,7 +91,6 @@ work-laid-spec =
     (tie.spec
     is-unsound-requires
     returns
-    has-stripe-requires
     returns-2
     step-requires
     same-length

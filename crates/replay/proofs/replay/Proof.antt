@@ -41,14 +41,21 @@ part-entry-start c = let h = far c in search needs
 part-entry-end : tie.Need-part-entry-end Inv-loop μ-loop
 part-entry-end c = search needs
 
+works-start-requires : tie.Need-works-start-requires Inv-loop μ-loop
+works-start-requires c κs = let h = far (c .before) in let l = c .before .if1 .left in search needs
+
 tape-start-requires : tie.Need-tape-start-requires Inv-loop μ-loop
-tape-start-requires c κs = let h = far (c .before) in let l = c .before .if1 .left in search needs
+tape-start-requires c κs =
+    let else1 = c .before .before in
+    let h = far else1 in
+    let l = else1 .if1 .left in
+    (search needs, c .works-start .ensures .1)
 
 same-length-3 : tie.Need-same-length-3 Inv-loop μ-loop
-same-length-3 c = c .before .before .before .before .before .before .loop .inv .1
+same-length-3 c = c .before .before .before .before .before .before .before .loop .inv .1
 
 same-length-4 : tie.Need-same-length-4 Inv-loop μ-loop
-same-length-4 c = c .before .before .before .before .before .before .loop .inv .2
+same-length-4 c = c .before .before .before .before .before .before .before .loop .inv .2
 
 returns-2 : tie.Need-returns-2 Inv-loop μ-loop
 returns-2 c = tt
@@ -56,39 +63,39 @@ returns-2 c = tt
 print-calls-requires : tie.Need-print-calls-requires Inv-loop μ-loop
 print-calls-requires c κs =
     let else2 = c .before .before in
-    let at-loop = else2 .before .before .before .before .before .before in
+    let at-loop = else2 .before .before .before .before .before .before .before in
     let start = at-loop .before .before .before .before in
     let n = at-loop .loop .inv .2 in
     let p = start .pre in
-    (else2 .before .tape-start .ensures, else2 .if2 .left, omega arith)
+    (else2 .before .before .works-start .ensures .0, else2 .before .tape-start .ensures, else2 .if2 .left, omega arith)
 
 same-length-5 : tie.Need-same-length-5 Inv-loop μ-loop
 same-length-5 c =
     let after-print-calls = c .before .before .before .before .before in
-    let at-loop = after-print-calls .before .before .before .before .before .before .before .before .before in
-    after-print-calls .print-calls .kept .1 .1 .0 ∙ at-loop .loop .inv .1
+    let at-loop = after-print-calls .before .before .before .before .before .before .before .before .before .before in
+    after-print-calls .print-calls .kept .1 .1 .1 .0 ∙ at-loop .loop .inv .1
 
 same-length-6 : tie.Need-same-length-6 Inv-loop μ-loop
 same-length-6 c =
     let after-print-calls = c .before .before .before .before .before in
-    let at-loop = after-print-calls .before .before .before .before .before .before .before .before .before in
-    after-print-calls .print-calls .kept .1 .1 .1 .0 ∙ at-loop .loop .inv .2
+    let at-loop = after-print-calls .before .before .before .before .before .before .before .before .before .before in
+    after-print-calls .print-calls .kept .1 .1 .1 .1 .0 ∙ at-loop .loop .inv .2
 
 returns-3 : tie.Need-returns-3 Inv-loop μ-loop
 returns-3 c = tt
 
 loop-less : tie.Need-loop-less Inv-loop μ-loop
 loop-less c =
-    let else1 = c .before .before .before .before .before .before .before .before .before .before .before in
+    let else1 = c .before .before .before .before .before .before .before .before .before .before .before .before in
     let h = far else1 in let l = else1 .if1 .left in omega arith
 
 loop-again : tie.Need-loop-again Inv-loop μ-loop
 loop-again c =
     let after-print-calls = c .before .before .before .before .before in
-    let else1 = after-print-calls .before .before .before .before .before .before in
+    let else1 = after-print-calls .before .before .before .before .before .before .before in
     let p = after-print-calls .print-calls in
     let inv = else1 .before .before .before .loop .inv in
-    (else1 .if1 .left, p .kept .1 .1 .0 ∙ inv .1, p .kept .1 .1 .1 .0 ∙ inv .2)
+    (else1 .if1 .left, p .kept .1 .1 .1 .0 ∙ inv .1, p .kept .1 .1 .1 .1 .0 ∙ inv .2)
 
 same-length-7 : tie.Need-same-length-7 Inv-loop μ-loop
 same-length-7 c = c .before .loop .inv .1
@@ -113,6 +120,7 @@ replay-spec =
     sub-entry
     part-entry-start
     part-entry-end
+    works-start-requires
     tape-start-requires
     same-length-3
     same-length-4

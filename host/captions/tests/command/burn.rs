@@ -209,6 +209,92 @@ fn a_frame_has_none_to_64_stripes() {
     assert!(burnt(&["--height", "64", "--stripes", "1"]) == low);
 }
 
+/// The list of these rows.
+fn list(ends: impl IntoIterator<Item = u32>) -> String {
+    let ends: Vec<String> = ends.into_iter().map(|end| end.to_string()).collect();
+    ends.join(",")
+}
+
+#[test]
+fn unequal_stripes_make_the_same_frame() {
+    let size = ["--width", "80", "--height", "80"];
+    let whole = burnt(&size);
+    let tall_above = list(17..=80);
+    for ends in ["80", "1,80", "79,80", "40,56,60,61,70,80", &tall_above] {
+        let striped = |more: &[&str]| burnt(&[&size[..], &["--stripe-ends", ends], more].concat());
+        assert!(striped(&[]) == whole, "{ends}");
+        assert!(striped(&["--budget", "1"]) == whole, "{ends}");
+        assert!(striped(&["--budget=50"]) == whole, "{ends}");
+    }
+    let none = burnt(&["--height", "0"]);
+    assert!(burnt(&["--height", "0", "--stripe-ends", "", "--budget", "2"]) == none);
+    // Of two the last counts.
+    assert!(burnt(&["--stripe-ends", "7", "--stripe-ends=300,360"]) == burnt(&[]));
+}
+
+/// A height, ends that do not fit it, and what is said of them.
+const UNFIT_ENDS: [[&str; 3]; 10] = [
+    ["360", "", "is empty, and the last end is the height, 360"],
+    ["360", "0", "begins with 0, and a stripe has a row at least"],
+    [
+        "360",
+        "0,360",
+        "begins with 0, and a stripe has a row at least",
+    ],
+    [
+        "360",
+        "300,340,340,360",
+        "has 340 behind 340, and each end is past the one before it",
+    ],
+    [
+        "360",
+        "300,299,360",
+        "has 299 behind 300, and each end is past the one before it",
+    ],
+    [
+        "360",
+        "300,4294967295,360",
+        "has 360 behind 4294967295, and each end is past the one before it",
+    ],
+    [
+        "360",
+        "300,359",
+        "ends with 359, and the last end is the height, 360",
+    ],
+    [
+        "360",
+        "361",
+        "ends with 361, and the last end is the height, 360",
+    ],
+    [
+        "0",
+        "0",
+        "has an end, 0, and a frame without rows has no stripe",
+    ],
+    [
+        "0",
+        "3,7",
+        "has an end, 3, and a frame without rows has no stripe",
+    ],
+];
+
+#[test]
+fn says_where_stripes_may_end() {
+    let many = list((1..=64).chain([360]));
+    let too_many = ["360", &many, "has 65 ends, and 64 are the most"];
+    for [height, ends, why] in UNFIT_ENDS.into_iter().chain([too_many]) {
+        let message = format!("refused 13: --stripe-ends {why}");
+        let words = ["burn", "--height", height, "--stripe-ends", ends];
+        run(&words, CUE).failed(1, "", &message);
+        // They come before the tape, and after its length and the settings.
+        run(&words, b"\x06").failed(1, "", &message);
+        let message = "refused 10: the tape has more than 16384 bytes";
+        run(&words, &[0x01; 16_385]).failed(1, "", message);
+        let message = "refused 8: --slant is 9, and its range is 0 to 8";
+        run(&[&words[..], &["--slant", "9"]].concat(), CUE).failed(1, "", message);
+    }
+}
+
 #[test]
 fn shows_progress_at_a_terminal_alone() {
     // Long enough for some; standard error, a pipe here, has to stay empty.
@@ -276,6 +362,8 @@ fn says_how_high_stripes_may_be() {
         take 6 or more";
     run(&["burn", "--stripes", "5"], CUE).failed(1, "", message);
     assert!(burnt(&["--stripes", "6"]) == burnt(&[]));
+    let message = "refused 10: the tape has more than 16384 bytes";
+    run(&["burn", "--stripes", "0"], &[0x01; 16_385]).failed(1, "", message);
 }
 
 #[test]
@@ -295,5 +383,6 @@ fn refused_tapes_leave_nothing() {
     for (tape, message) in cases {
         run(&["burn"], tape).failed(1, "", message);
         run(&["burn", "--stripes", "100"], tape).failed(1, "", message);
+        run(&["burn", "--stripe-ends", "300,360"], tape).failed(1, "", message);
     }
 }

@@ -43,7 +43,7 @@ fn helps_with_each_subcommand() {
 /// An option, and what the two lines of its help say.
 type Said = [&'static str; 3];
 
-const OF_BURN: [Said; 14] = [
+const OF_BURN: [Said; 15] = [
     ["--width", "from 0 to 4096", "640 by default"],
     ["--height", "from 0 to 4096", "360 by default"],
     [
@@ -69,6 +69,7 @@ const OF_BURN: [Said; 14] = [
     ["--slant", "from 0 to 8", "2 by default"],
     ["--outline-cap", "from 0 to 4", "2 by default"],
     ["--stripes", "from 1 to 4294967295", "64"],
+    ["--stripe-ends", "rows with commas between them", "64"],
     ["--budget", "from 1 to 4294967295", "all by default"],
 ];
 
@@ -120,7 +121,7 @@ const WRONG: [Wrong; 6] = [
 ];
 
 /// The help named is that of the subcommand, the first of the words.
-const WRONG_OF_A_SUBCOMMAND: [Wrong; 10] = [
+const WRONG_OF_A_SUBCOMMAND: [Wrong; 13] = [
     ("show cue.tape", "the argument \"cue.tape\" is one too many"),
     ("text --width=3", "text has no option \"--width\""),
     ("show -x", "show has no option \"-x\""),
@@ -142,7 +143,22 @@ const WRONG_OF_A_SUBCOMMAND: [Wrong; 10] = [
         "burn --glyph-mode 2",
         "--glyph-mode takes 0 or 1, not \"2\"",
     ),
-    ("burn --budget 3", "--budget needs --stripes"),
+    (
+        "burn --budget 3",
+        "--budget needs --stripes or --stripe-ends",
+    ),
+    (
+        "burn --stripes 9 --stripe-ends 360",
+        "--stripes and --stripe-ends cannot both be given",
+    ),
+    (
+        "burn --stripe-ends= --budget 3 --stripes=9",
+        "--stripes and --stripe-ends cannot both be given",
+    ),
+    (
+        "keep --stripe-ends 360",
+        "keep has no option \"--stripe-ends\"",
+    ),
 ];
 
 /// Runs the words and holds what is said of them to what is wrong and the help that is named.
@@ -199,6 +215,29 @@ fn says_which_value_is_no_number() {
     for (words, [name, range, value]) in NO_NUMBERS {
         let wrong = format!("{name} takes a number from {range}, not {value:?}");
         says_of_a_subcommand(words, &wrong);
+    }
+}
+
+const NO_ENDS: [&str; 9] = [
+    "x",
+    ",",
+    "360,",
+    ",360",
+    "300,,360",
+    "300, 360",
+    "300;360",
+    "-1,360",
+    "300,4294967296",
+];
+
+#[test]
+fn says_which_value_is_no_list_of_rows() {
+    for value in NO_ENDS {
+        let message = format!(
+            "--stripe-ends takes rows with commas between them, as 300,340,360, not {value:?}; \
+             see captions burn --help"
+        );
+        run(&["burn", "--stripe-ends", value], b"").failed(2, "", &message);
     }
 }
 

@@ -1,7 +1,8 @@
 //! What the tests share.
 #![allow(dead_code)] // each test file uses some of it
 
-use captions::{Align, Settings};
+use captions::raw;
+use captions::{Align, Record, Settings, Stripes};
 
 /// What buffers hold before a call.
 pub const PAINT: u8 = 0xA5;
@@ -35,6 +36,37 @@ pub fn plain(width: u32, height: u32) -> Settings {
 /// A buffer as long as the picture and so many bytes more, painted.
 pub fn painted(settings: &Settings, more: usize) -> Vec<u8> {
     vec![PAINT; settings.new_picture().len() + more]
+}
+
+/// Stripes of one height, which fit the picture.
+pub fn equal(settings: &Settings, stripe_height: u32) -> Stripes {
+    Stripes::of_height(settings.height, stripe_height).expect("they fit")
+}
+
+/// At most 64 ends that rise to a height, mostly fewer.
+pub fn rising_ends(random: &mut Random, height: u32) -> Vec<u32> {
+    if height == 0 {
+        return Vec::new();
+    }
+    let rows = (0..random.under(64)).map(|_| random.under(height));
+    let mut ends: Vec<u32> = rows.chain([height]).filter(|row| *row > 0).collect();
+    ends.sort_unstable();
+    ends.dedup();
+    ends
+}
+
+/// The record of a job in stripes that has done nothing, whether they fit a picture or not.
+pub fn record_of(raw::Stripes { count, ends }: raw::Stripes) -> Record {
+    Record {
+        count,
+        ends,
+        ..Record::ZEROS
+    }
+}
+
+/// The same of stripes of one height, in a picture so high.
+pub fn record(height: u32, stripe_height: u32) -> Record {
+    record_of(raw::Stripes::of_height(height, stripe_height))
 }
 
 /// A small generator (splitmix64): a seed gives the same numbers everywhere.

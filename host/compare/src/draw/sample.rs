@@ -20,7 +20,7 @@ use std::ops::RangeInclusive;
 /// Twenty-two are refused.
 const SAMPLE: Sample = Sample {
     seed: 22,
-    entries: 360,
+    entries: 352,
     apart: 16,
 };
 /// Of so many captions the last has other house settings than the original's.
@@ -38,20 +38,34 @@ struct Entry {
     due: Due,
 }
 
+/// What an entry of a job has besides its frame. A Draw has nothing of it.
+#[derive(Default)]
+pub struct Calls<'a> {
+    /// The count of its stripes.
+    pub count: u8,
+    /// Their ends; where there are more, those are not used, and where there are fewer, the others are 0.
+    pub ends: &'a [u32],
+    /// How many calls it has.
+    pub calls: u16,
+    /// Its Works as they are written.
+    pub works: &'a [u8],
+}
+
 /// The entries of the Draws.
 pub fn entries() -> Vec<u8> {
     let mut bytes = Vec::new();
     for Entry { frame, .. } in all() {
-        put(&mut bytes, &frame, 0, 0, &[]);
+        put(&mut bytes, &frame, Calls::default());
     }
     bytes
 }
 
 /// Puts an entry behind others: the settings in their order, of which width, height and side margin have
-/// two bytes, slant and outline cap one, and the others four; two bytes each of the stripe height, of the
-/// job's calls, which a Draw has none of, of the picture's buffer's length and of how many bytes follow,
-/// high byte first; and the Works and the tape.
-pub fn put(bytes: &mut Vec<u8>, frame: &Frame, stripe_height: u16, calls: u16, works: &[u8]) {
+/// two bytes, slant and outline cap one, and the others four; a byte each of the count of stripes and of
+/// how many entries of theirs follow; two bytes each of the job's calls, which a Draw has none of, of the
+/// picture's buffer's length and of how many bytes follow, high byte first; and the entries, two bytes
+/// each, the Works and the tape.
+pub fn put(bytes: &mut Vec<u8>, frame: &Frame, job: Calls) {
     let settings = &frame.settings;
     for side in [settings.width, settings.height] {
         bytes.extend((side as u16).to_be_bytes());
@@ -70,12 +84,16 @@ pub fn put(bytes: &mut Vec<u8>, frame: &Frame, stripe_height: u16, calls: u16, w
     let house = &settings.house;
     bytes.extend((house.side_margin as u16).to_be_bytes());
     bytes.extend([house.slant, house.outline_cap].map(|number| number as u8));
-    let follow = works.len() + frame.tape.len();
+    bytes.extend([job.count, job.ends.len() as u8]);
+    let follow = 2 * job.ends.len() + job.works.len() + frame.tape.len();
     let size = frame.bytes.len();
-    for number in [stripe_height, calls, size as u16, follow as u16] {
+    for number in [job.calls, size as u16, follow as u16] {
         bytes.extend(number.to_be_bytes());
     }
-    bytes.extend(works);
+    for end in job.ends {
+        bytes.extend((*end as u16).to_be_bytes());
+    }
+    bytes.extend(job.works);
     bytes.extend(&frame.tape);
 }
 

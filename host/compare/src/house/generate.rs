@@ -5,6 +5,7 @@ use crate::draw::settings::{House, OUTLINE_CAP_MAX, SIDE_MARGIN_MAX, SLANT_MAX, 
 use crate::random::Random;
 use crate::tape::{WHITE, reading};
 use crate::work;
+use crate::work::record::Stripes;
 use crate::wrap::cues::Cue;
 use oxideav_core::Segment;
 
@@ -26,15 +27,14 @@ pub fn settings(random: &mut Random) -> Settings {
     }
 }
 
-/// Such settings, now and then of a picture with 64 stripes, and how high these are.
-pub fn striped(random: &mut Random) -> (Settings, u32) {
+/// Such settings, now and then of a picture with 64 stripes, and stripes of one height.
+pub fn striped(random: &mut Random) -> (Settings, Stripes) {
     let settings = settings(random);
     if random.one_in(40) {
-        let (height, stripe_height) = work::generate::most_stripes(random);
-        return (Settings { height, ..settings }, stripe_height);
+        let (height, stripes) = work::generate::most_stripes(random);
+        return (Settings { height, ..settings }, stripes);
     }
-    let stripe_height = work::generate::stripe_height(random, settings.height);
-    (settings, stripe_height)
+    (settings, work::generate::equal(random, settings.height))
 }
 
 /// Numbers of which one at least is not the original's.
@@ -64,7 +64,7 @@ fn side_margin(random: &mut Random) -> u32 {
 }
 
 /// Around the caps mostly, now and then any.
-fn outline(random: &mut Random) -> u32 {
+pub fn outline(random: &mut Random) -> u32 {
     match random.within(0..=15) {
         0 => u32::MAX,
         1 => random.within_u32(0..=u32::MAX),

@@ -10,7 +10,7 @@ use crate::house::kinds::Kinds;
 use crate::tape::ROOM;
 use crate::tape::segments::each_letter;
 use crate::work::job::Job;
-use crate::work::{self, steps};
+use crate::work::{self, record, steps};
 use crate::wrap::cues::{self, Cue};
 use oxideav_core::{Segment, SubtitleCue};
 use reference::Original;
@@ -123,7 +123,8 @@ fn frame(original: &Original, settings: Settings, kinds: &mut Kinds) -> Result<(
 
 fn job(original: &Original, settings: Settings, kinds: &mut Kinds) -> Result<(), String> {
     let bytes = vec![FILLED; settings.area()];
-    let mut job = Job::open(original, settings, words(), bytes, STRIPE_HEIGHT)?;
+    let stripes = record::equal(settings.height, STRIPE_HEIGHT);
+    let mut job = Job::open(original, settings, words(), bytes, stripes)?;
     let works = &mut work::kinds::Kinds::default();
     for budget in BUDGETS {
         job.each(0..job.stripes(), budget, works)?;

@@ -36,9 +36,9 @@ pub fn jobs(original: &Original, seed: u64, jobs: u64) -> Count {
     let mut kinds = Kinds::default();
     let mut works = work::kinds::Kinds::default();
     let count = each(NAME, seed, JOBS, jobs, |random| {
-        let (settings, stripe_height) = generate::striped(random);
+        let (settings, stripes) = generate::striped(random);
         let cue = generate::cue(random);
-        let job = work::done(original, random, settings, cue, stripe_height, &mut works)?;
+        let job = work::done(original, random, settings, cue, stripes, &mut works)?;
         kinds.job(&job);
         Ok(())
     });
@@ -53,14 +53,14 @@ pub fn records(original: &Original, seed: u64, calls: u64) -> Count {
     const NAME: &str = "Works on any record at other house settings";
     let mut tally = Tally::default();
     let count = each(NAME, seed, RECORDS, calls, |random| {
-        let (settings, stripe_height) = generate::striped(random);
+        let (settings, stripes) = generate::striped(random);
         let frame = Frame {
             settings,
             tape: generate::cue(random).tape,
             room: wrap::room(random),
             bytes: draw::generate::buffer(random, settings.area()),
         };
-        let call = damaged::work(original, random, frame, stripe_height);
+        let call = damaged::work(original, random, frame, &stripes);
         let due = due::of_call(original, &call);
         tally.add(&due);
         call.hold(&due)

@@ -27,10 +27,10 @@ pub fn compare(original: &Original, seed: u64, calls: u64) -> Count {
 }
 
 fn random(original: &Original, random: &mut Random, tally: &mut Tally) -> Result<(), String> {
-    let (settings, stripe_height) = generate::settings(random);
+    let (settings, stripes) = generate::settings(random);
     let cue = draw::generate::cue(random);
     let theirs = Theirs::new(original, settings, cue.segments);
-    let record = generate::sound(random, settings.height, stripe_height, theirs.total);
+    let record = generate::sound(random, &stripes, theirs.total);
     let call = Call {
         frame: Frame {
             settings,
@@ -39,7 +39,7 @@ fn random(original: &Original, random: &mut Random, tally: &mut Tally) -> Result
             bytes: draw::generate::buffer(random, settings.area()),
         },
         ask: Ask::Work {
-            stripe: generate::stripe(random, settings.height, &record),
+            stripe: generate::stripe(random, &record),
             budget: generate::budget(random, &settings, theirs.total),
         },
         record,

@@ -4,7 +4,7 @@ use crate::draw::frame::Frame;
 pub use crate::proved::Ask;
 use crate::proved::{self, Buffers};
 use crate::refusal::Refusal;
-use crate::work::record::Record;
+use crate::work::record::{Record, ZEROS};
 use std::fmt::{self, Display, Formatter};
 
 /// What stands on each side of a record.
@@ -42,6 +42,16 @@ impl Call {
             .map_err(|found| format!("{found}\n    {self}"))
     }
 
+    /// Makes the call so; the next gets what it left, which is what was due.
+    pub fn step(&mut self, due: Outcome) -> Result<(), String> {
+        self.hold(&due)?;
+        if let Ok(done) = due {
+            self.record = done.record;
+            self.frame.bytes = done.bytes;
+        }
+        Ok(())
+    }
+
     fn make(&self, due: &Outcome) -> Result<(), String> {
         let mut fence = Fence {
             before: POSTS,
@@ -77,7 +87,7 @@ impl Call {
     /// The record after a refusal.
     fn refused(&self) -> Record {
         match self.ask {
-            Ask::Open { .. } => Record::new(0),
+            Ask::Open { .. } => ZEROS,
             Ask::Work { .. } => self.record,
         }
     }

@@ -8,14 +8,15 @@ use crate::random::Random;
 use crate::refusal::Tally;
 use crate::tape::letters::segments;
 use crate::work::call::{Ask, Call};
-use crate::work::record::{Record, STRIPES, Stripes};
+use crate::work::record::{self, Ends, Record, STRIPES, Stripes};
 use crate::work::{due, generate};
 use reference::Original;
+use std::array;
 
 /// Sets these calls apart from the jobs of the same seed.
 const DAMAGED: u64 = 0xda_10b5;
 
-/// Holds calls to the reading of document 01. Shows how many were due which refusal.
+/// Holds calls to the reading of documents 01 and 02. Shows how many were due which refusal.
 pub fn compare(original: &Original, seed: u64, calls: u64) -> Count {
     let mut count = Count::new("damaged calls of Open and Work");
     let (mut opens, mut works) = (Tally::default(), Tally::default());
@@ -46,29 +47,30 @@ fn damaged(original: &Original, random: &mut Random) -> Call {
     }
     let settings = frame.settings;
     let stripe_height = stripe_height(random, settings.height.min(SIDE_MAX));
+    let stripes = record::equal(settings.height, stripe_height);
     if random.one_in(3) {
         return Call {
             frame,
             record: anything(random),
-            ask: Ask::Open { stripe_height },
+            ask: Ask::Open { stripes },
         };
     }
-    work(original, random, frame, stripe_height)
+    work(original, random, frame, &stripes)
 }
 
 /// A Work on a record that may be, in half of the cases, or has a counter too large.
-pub fn work(original: &Original, random: &mut Random, frame: Frame, stripe_height: u32) -> Call {
+pub fn work(original: &Original, random: &mut Random, frame: Frame, stripes: &Stripes) -> Call {
     let settings = frame.settings;
     let total = draw::due::letters(&frame).map_or(0, |letters| {
         let segments = segments(&letters, settings.default_color);
         draw::due::strokes(original, &settings, &segments).total
     });
-    let mut record = generate::sound(random, settings.height, stripe_height, total);
+    let mut record = generate::sound(random, stripes, total);
     let ask = Ask::Work {
-        stripe: generate::stripe(random, settings.height, &record),
+        stripe: generate::stripe(random, &record),
         budget: generate::budget(random, &settings, total),
     };
-    spoil(random, &mut record, settings.height, total as u32);
+    spoil(random, &mut record, total as u32);
     Call { frame, record, ask }
 }
 
@@ -83,18 +85,20 @@ fn stripe_height(random: &mut Random, height: u32) -> u32 {
     }
 }
 
-fn anything(random: &mut Random) -> Record {
-    let mut record = Record::new(random.within_u32(0..=u32::MAX));
-    for counter in &mut record.counters {
-        *counter = random.within_u32(0..=u32::MAX);
+/// Numbers without a plan, but for the count, which is often one that there may be.
+pub fn anything(random: &mut Random) -> Record {
+    let most = random.pick(&[STRIPES as u32, u32::MAX]);
+    Record {
+        count: random.within_u32(0..=most),
+        ends: array::from_fn(|_| random.within_u32(0..=u32::MAX)),
+        counters: array::from_fn(|_| random.within_u32(0..=u32::MAX)),
     }
-    record
 }
 
 /// Leaves a record as it is, in half of the cases, or makes a counter too large: of any stripe, of
 /// the last, of the first that is missing, of the last that there may be, or of two.
-fn spoil(random: &mut Random, record: &mut Record, height: u32, total: u32) {
-    let stripes = record.stripes(height);
+pub fn spoil(random: &mut Random, record: &mut Record, total: u32) {
+    let stripes = record.stripes();
     let any = random.within(0..=STRIPES as i64 - 1) as usize;
     let large = random.within_u32(1..=u32::MAX);
     let over = random.pick(&[total + 1, total + 1, large, u32::MAX]);

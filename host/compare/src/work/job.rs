@@ -7,10 +7,11 @@ use crate::tape::ROOM;
 use crate::work::call::{Ask, Call, Done, Outcome};
 use crate::work::due;
 use crate::work::kinds::Kinds;
-use crate::work::record::{Record, STRIPES, Stripes};
+use crate::work::record::{Ends, Record, STRIPES, Stripes, unused};
 use crate::work::theirs::Theirs;
 use crate::wrap::cues::Cue;
 use reference::Original;
+use std::mem;
 
 pub struct Job<'a> {
     pub theirs: Theirs<'a>,
@@ -35,7 +36,7 @@ impl<'a> Job<'a> {
         settings: Settings,
         cue: Cue,
         bytes: Vec<u8>,
-        stripe_height: u32,
+        stripes: Stripes,
     ) -> Result<Job<'a>, String> {
         let mut job = Job {
             theirs: Theirs::new(original, settings, cue.segments),
@@ -47,15 +48,16 @@ impl<'a> Job<'a> {
                     bytes,
                 },
                 record: Record {
-                    stripe_height: !stripe_height,
+                    count: !stripes.count,
+                    ends: stripes.ends.map(|end| !end),
                     counters: [u32::MAX; STRIPES],
                 },
-                ask: Ask::Open { stripe_height },
+                ask: Ask::Open { stripes },
             },
             budgets: [0; STRIPES],
         };
         let due = due::of_cue(&job.theirs, &job.call);
-        job.step(due)?;
+        job.call.step(due)?;
         Ok(job)
     }
 
@@ -64,7 +66,7 @@ impl<'a> Job<'a> {
     }
 
     pub fn stripes(&self) -> usize {
-        self.call.record.stripes(self.theirs.settings.height)
+        self.call.record.stripes()
     }
 
     /// Makes a Work and holds it to the original's picture after the stripe's first strokes.
@@ -78,7 +80,7 @@ impl<'a> Job<'a> {
         self.call.frame.room = room;
         let due = self.due(stripe, budget);
         kinds.add(&self.theirs, &self.call, &due);
-        self.step(due)
+        self.call.step(due)
     }
 
     /// Works with one budget on each of the stripes.
@@ -114,38 +116,46 @@ impl<'a> Job<'a> {
             .map_err(|found| format!("finished, {found}\n    {}", self.call))
     }
 
+    /// Makes a call beside the job, on its picture, with another record or other stripes, and answers the
+    /// number of the refusal that is due, if any. The job goes on as if it had not been made.
+    pub fn aside(&mut self, record: Record, ask: Ask, room: usize) -> Result<Option<u32>, String> {
+        let own = mem::replace(&mut self.call.record, record);
+        self.call.ask = ask;
+        self.call.frame.room = room;
+        let due = due::of_cue(&self.theirs, &self.call);
+        let held = self.call.hold(&due);
+        self.call.record = own;
+        held.map(|()| due.err().map(|refusal| refusal.number))
+    }
+
+    /// Changes the entries of the record that are not used.
+    pub fn change_unused(&mut self, change: impl FnOnce(&mut [u32])) {
+        let record = &mut self.call.record;
+        change(unused(record.count, &mut record.ends));
+    }
+
     /// Only a short workspace or a stripe that is missing stops a Work of a job.
     fn due(&mut self, stripe: u32, budget: u32) -> Outcome {
-        let settings = self.theirs.settings;
         let mut record = self.call.record;
         if self.call.frame.room < ROOM {
             return plain(11);
         }
-        let Some(rows) = record.rows(settings.height, stripe) else {
+        if stripe >= record.count {
             return plain(12);
-        };
+        }
         let sum = &mut self.budgets[stripe as usize];
         *sum += u64::from(budget);
         let counter = &mut record.counters[stripe as usize];
         let before = *counter;
         *counter = (*sum).min(self.theirs.total as u64) as u32;
         let mut bytes = self.call.frame.bytes.clone();
-        let part = settings.bytes(&rows);
-        bytes[part.clone()].copy_from_slice(&self.theirs.after(*counter as usize)[part]);
+        let (settings, strokes) = (self.theirs.settings, *counter);
+        let drawn = self.theirs.after(strokes as usize);
+        due::take_rows(&settings, &record, stripe, drawn, &mut bytes);
         Ok(Done {
-            answer: (*counter - before) as usize,
+            answer: (strokes - before) as usize,
             record,
             bytes,
         })
-    }
-
-    /// Makes the call; the next gets what it left, which is what was due.
-    fn step(&mut self, due: Outcome) -> Result<(), String> {
-        self.call.hold(&due)?;
-        if let Ok(done) = due {
-            self.call.record = done.record;
-            self.call.frame.bytes = done.bytes;
-        }
-        Ok(())
     }
 }

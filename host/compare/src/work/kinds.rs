@@ -3,7 +3,7 @@
 use crate::draw::settings::Settings;
 use crate::refusal::Tally;
 use crate::work::call::{Ask, Call, Done, Outcome};
-use crate::work::record::{Record, STRIPES, Stripes};
+use crate::work::record::{Ends, Record, STRIPES};
 use crate::work::theirs::Theirs;
 use std::collections::BTreeMap;
 
@@ -81,30 +81,29 @@ impl Met<'_> {
 
 type Finish = (&'static str, fn(&Settings, &Record, &[u8]) -> bool);
 
-const FINISHES: [Finish; 7] = [
+const FINISHES: [Finish; 6] = [
     ("something to see", |_, _, whole| lit(whole)),
     ("no stripe", |settings, _, _| settings.height == 0),
-    ("one stripe", |settings, record, _| {
-        settings.height > 0 && record.stripes(settings.height) == 1
-    }),
-    ("64 stripes", |settings, record, _| {
-        record.stripes(settings.height) == STRIPES
-    }),
-    ("stripe over the height", |settings, record, _| {
-        record.stripe_height > settings.height
-    }),
-    ("last stripe shorter", |settings, record, _| {
-        settings.height > record.stripe_height
-            && !settings.height.is_multiple_of(record.stripe_height)
+    ("one stripe", |_, record, _| record.stripes() == 1),
+    ("64 stripes", |_, record, _| record.stripes() == STRIPES),
+    ("last stripe shorter", |_, record, _| {
+        let heights = record.heights();
+        heights.last() < heights.first()
     }),
     ("lit on both sides of a cut", |settings, record, whole| {
-        (1..record.stripes(settings.height)).any(|stripe| {
-            let first = stripe * record.stripe_height as usize;
-            let sides = [first - 1..first, first..first + 1];
+        cuts(record).any(|cut| {
+            let sides = [cut - 1..cut, cut..cut + 1];
             sides.iter().all(|row| lit(&whole[settings.bytes(row)]))
         })
     }),
 ];
+
+/// The first rows of the stripes but the first.
+fn cuts(record: &Record) -> impl Iterator<Item = usize> {
+    let ends = record.used().unwrap_or_default();
+    let (_, ends) = ends.split_last().unwrap_or((&0, &[]));
+    ends.iter().map(|&end| end as usize)
+}
 
 fn lit(bytes: &[u8]) -> bool {
     bytes.iter().any(|&byte| byte != 0)
@@ -148,6 +147,16 @@ impl Kinds {
         for (count, (_, kind)) in self.finished.iter_mut().zip(FINISHES) {
             *count += u64::from(kind(settings, record, whole));
         }
+    }
+
+    /// How many Works and finished jobs of each kind there were.
+    pub fn counts(&self) -> impl Iterator<Item = (&'static str, u64)> {
+        let works = KINDS.map(|(name, _)| name).into_iter().zip(self.met);
+        let jobs = FINISHES
+            .map(|(name, _)| name)
+            .into_iter()
+            .zip(self.finished);
+        works.chain(jobs)
     }
 
     /// Shows what jobs of this kind met.

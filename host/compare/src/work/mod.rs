@@ -1,8 +1,8 @@
 //! Open and Work: jobs of many calls held to the original's drawing, stopped after so many of its
-//! strokes, and calls of every kind held to what document 01 asks of them.
+//! strokes, and calls of every kind held to what documents 01 and 02 ask of them.
 
 mod any;
-mod call;
+pub mod call;
 pub mod damaged;
 pub mod due;
 pub mod generate;
@@ -14,7 +14,7 @@ pub mod sample;
 pub mod speed;
 pub mod steps;
 mod stopped;
-mod theirs;
+pub mod theirs;
 
 use crate::count::Count;
 use crate::draw;
@@ -23,6 +23,7 @@ use crate::random::Random;
 use crate::wrap::cues::Cue;
 use job::Job;
 use kinds::Kinds;
+use record::Stripes;
 use reference::Original;
 
 /// Sets the jobs apart from the frames of the same seed.
@@ -56,9 +57,9 @@ fn random(original: &Original, seed: u64, jobs: u64) -> Count {
 }
 
 fn random_job(original: &Original, random: &mut Random, kinds: &mut Kinds) -> Result<(), String> {
-    let (settings, stripe_height) = generate::settings(random);
+    let (settings, stripes) = generate::settings(random);
     let cue = draw::generate::cue(random);
-    done(original, random, settings, cue, stripe_height, kinds).map(|_| ())
+    done(original, random, settings, cue, stripes, kinds).map(|_| ())
 }
 
 /// A job of random Works, which most often finish it.
@@ -67,12 +68,12 @@ pub fn done<'a>(
     random: &mut Random,
     settings: Settings,
     cue: Cue,
-    stripe_height: u32,
+    stripes: Stripes,
     kinds: &mut Kinds,
 ) -> Result<Job<'a>, String> {
     let bytes = draw::generate::buffer(random, settings.area());
     let large = bytes.len() > LARGE;
-    let mut job = Job::open(original, settings, cue, bytes, stripe_height)?;
+    let mut job = Job::open(original, settings, cue, bytes, stripes)?;
     let most = match random.within(0..=7) {
         _ if large => 3,
         0 => 30,

@@ -1,49 +1,123 @@
-//! The stripes that a job record speaks of, as document 01 has them.
+//! The stripes of a picture, as document 02's S-4 has them: what is handed to Open, and what a record
+//! holds of it.
 
-pub use captions::raw::Record;
-use std::ops::Range;
+pub use captions::raw::{Record, Stripes};
 
 /// How many stripes a picture has at most.
 pub const STRIPES: usize = 64;
 
-pub trait Stripes {
-    /// Whether at most 64 stripes reach over a picture so high.
-    fn reaches(&self, height: u32) -> bool;
+/// The record of a refused Open.
+pub const ZEROS: Record = Record {
+    count: 0,
+    ends: [0; STRIPES],
+    counters: [0; STRIPES],
+};
 
-    /// The rows of a stripe, where a picture so high has it.
-    fn rows(&self, height: u32, stripe: u32) -> Option<Range<usize>>;
+pub trait Ends {
+    /// The count, and the entries.
+    fn handed(&self) -> (u32, &[u32; STRIPES]);
 
-    /// How many stripes a picture so high has, of the 64 that there may be.
-    fn stripes(&self, height: u32) -> usize;
+    /// The ends: the first entries, as many as are counted, or `None` where there are not so many.
+    fn used(&self) -> Option<&[u32]> {
+        let (count, entries) = self.handed();
+        entries.get(..count as usize)
+    }
 
-    /// Whether no counter is over so many strokes, and none past the last stripe is other than 0.
-    fn is_sound(&self, height: u32, strokes: usize) -> bool;
+    /// How many stripes are counted, of the 64 that there may be.
+    fn stripes(&self) -> usize {
+        (self.handed().0 as usize).min(STRIPES)
+    }
+
+    /// Whether the ends rise strictly from a first one above 0, and the last is the height; a picture
+    /// of height 0 has none.
+    fn keep_rule(&self, height: u32) -> bool {
+        match self.used() {
+            None => false,
+            Some([]) => height == 0,
+            Some(ends @ [first, ..]) => {
+                *first > 0
+                    && ends.is_sorted_by(|end, next| end < next)
+                    && ends.last() == Some(&height)
+            }
+        }
+    }
+
+    /// The stripe that a row is in: the first whose end is past it.
+    fn stripe_of(&self, row: u32) -> Option<usize> {
+        self.used()?.iter().position(|&end| row < end)
+    }
+
+    /// How many rows each stripe has, where the ends keep the rule.
+    fn heights(&self) -> Vec<u32> {
+        let ends = self.used().unwrap_or_default();
+        let starts = [0].iter().chain(ends);
+        ends.iter()
+            .zip(starts)
+            .map(|(end, start)| end - start)
+            .collect()
+    }
 }
 
-impl Stripes for Record {
-    fn reaches(&self, height: u32) -> bool {
-        self.stripe_height > 0
-            && STRIPES as u64 * u64::from(self.stripe_height) >= u64::from(height)
+impl Ends for Stripes {
+    fn handed(&self) -> (u32, &[u32; STRIPES]) {
+        (self.count, &self.ends)
     }
+}
 
-    fn rows(&self, height: u32, stripe: u32) -> Option<Range<usize>> {
-        let (height, tall) = (u64::from(height), u64::from(self.stripe_height));
-        let first = u64::from(stripe) * tall;
-        (first < height).then(|| first as usize..height.min(first + tall) as usize)
+impl Ends for Record {
+    fn handed(&self) -> (u32, &[u32; STRIPES]) {
+        (self.count, &self.ends)
     }
+}
 
-    fn stripes(&self, height: u32) -> usize {
-        let there = |stripe: &u32| self.rows(height, *stripe).is_some();
-        (0..STRIPES as u32).take_while(there).count()
+/// Stripes with these ends, as many as have a place, and 0 in the other entries.
+pub fn ending(ends: &[u32]) -> Stripes {
+    let mut entries = [0; STRIPES];
+    for (entry, end) in entries.iter_mut().zip(ends) {
+        *entry = *end;
     }
+    Stripes {
+        count: ends.len() as u32,
+        ends: entries,
+    }
+}
 
-    fn is_sound(&self, height: u32, strokes: usize) -> bool {
-        (0..).zip(self.counters).all(|(stripe, counter)| {
-            let most = match self.rows(height, stripe) {
-                Some(_) => strokes,
-                None => 0,
-            };
-            counter as usize <= most
-        })
+/// Stripes of one height, as old stations send them; the last may be shorter. Where they are too many,
+/// so is the count, and of stripes without rows one is made, which ends at row 0: both break the rule.
+pub fn equal(height: u32, stripe_height: u32) -> Stripes {
+    let (rows, tall) = (u64::from(height), u64::from(stripe_height));
+    if tall == 0 {
+        return ending(&[0]);
     }
+    // The first row of each stripe that has a place.
+    let firsts = (0..STRIPES as u64).map(|stripe| stripe * tall);
+    let ends: Vec<u32> = firsts
+        .take_while(|first| *first < rows)
+        .map(|first| rows.min(first + tall) as u32)
+        .collect();
+    Stripes {
+        count: rows.div_ceil(tall) as u32,
+        ..ending(&ends)
+    }
+}
+
+/// The entries that a count leaves unused.
+pub fn unused(count: u32, entries: &mut [u32; STRIPES]) -> &mut [u32] {
+    &mut entries[STRIPES.min(count as usize)..]
+}
+
+/// The record that Open gives of these stripes.
+pub fn opened(stripes: &Stripes) -> Record {
+    let Stripes { count, ends } = ending(stripes.used().unwrap_or_default());
+    Record {
+        count,
+        ends,
+        ..ZEROS
+    }
+}
+
+/// Whether no counter is over so many strokes, and none past the last stripe is other than 0.
+pub fn is_sound(record: &Record, strokes: usize) -> bool {
+    let (there, past) = record.counters.split_at(record.stripes());
+    there.iter().all(|&counter| counter as usize <= strokes) && past.iter().all(|&c| c == 0)
 }

@@ -10,12 +10,13 @@ use crate::tape::ROOM;
 use crate::tape::limits::stopped;
 use crate::work::call::{Ask, Call};
 use crate::work::due;
-use crate::work::record::Record;
+use crate::work::record::{Record, Stripes, ZEROS, ending, equal};
 use reference::Original;
 
-/// Stripe heights for a picture of 130 rows, and how many stripes they make, where they may.
-const STRIPE_HEIGHTS: [(u32, Option<u32>); 4] =
-    [(0, None), (2, None), (3, Some(44)), (u32::MAX, Some(1))];
+/// The rows of the picture.
+const HEIGHT: u32 = 130;
+/// How many stripes are spoken of where there may be none so.
+const ELSEWHERE: u32 = 44;
 /// The tape that is not stopped: a letter and one without ink, and their strokes with outline 1.
 const GOOD: [u8; 4] = [0x02, 0x41, 0x02, 0xad];
 const STROKES: u32 = 9;
@@ -33,20 +34,28 @@ struct Base {
 pub fn each(original: &Original) -> Count {
     let mut count = Count::new("refusals of Open and Work");
     for base in bases() {
-        for (stripe_height, stripes) in STRIPE_HEIGHTS {
-            let record = Record::new(7);
-            let due = base.first(stripes.is_none(), None);
-            base.check(
-                original,
-                &mut count,
-                Ask::Open { stripe_height },
-                record,
-                due,
-            );
-            base.works(original, &mut count, stripe_height, stripes);
+        for (stripes, broken) in stripes() {
+            let record = Record { count: 7, ..ZEROS };
+            let due = base.first(broken, None);
+            let ask = Ask::Open { stripes };
+            base.check(original, &mut count, ask, record, due);
+            base.works(original, &mut count, &stripes, broken);
         }
     }
     count
+}
+
+/// Stripes of one height and others, and whether they break the rule.
+fn stripes() -> [(Stripes, bool); 6] {
+    let thin: Vec<u32> = (100..=HEIGHT).collect();
+    [
+        (equal(HEIGHT, 0), true),
+        (equal(HEIGHT, 2), true),
+        (equal(HEIGHT, 3), false),
+        (equal(HEIGHT, u32::MAX), false),
+        (ending(&thin), false),
+        (ending(&[100, 99, HEIGHT]), true),
+    ]
 }
 
 fn bases() -> Vec<Base> {
@@ -78,19 +87,12 @@ fn broken() -> impl Iterator<Item = Option<Break>> {
 }
 
 impl Base {
-    fn works(
-        &self,
-        original: &Original,
-        count: &mut Count,
-        stripe_height: u32,
-        stripes: Option<u32>,
-    ) {
-        // Where there are too many, as many as elsewhere are spoken of.
-        let there = stripes.unwrap_or(44);
-        for (record, unsound) in records(stripe_height, there) {
+    fn works(&self, original: &Original, count: &mut Count, stripes: &Stripes, broken: bool) {
+        let there = if broken { ELSEWHERE } else { stripes.count };
+        for (record, unsound) in records(stripes, there) {
             for stripe in [0, there - 1, there, 64, u32::MAX] {
                 let last = [(14, unsound), (12, stripe >= there)];
-                let due = self.first(stripes.is_none(), wrong(&last));
+                let due = self.first(broken, wrong(&last));
                 let ask = Ask::Work { stripe, budget: 4 };
                 self.check(original, count, ask, record, due);
             }
@@ -119,7 +121,7 @@ impl Base {
         record: Record,
         due: Option<Refusal>,
     ) {
-        let mut settings = translucent(3, 130);
+        let mut settings = translucent(3, HEIGHT);
         let bytes = vec![0xa5; settings.area() - usize::from(self.short)];
         if let Some(spoil) = self.broken {
             spoil(&mut settings);
@@ -147,12 +149,16 @@ fn wrong(numbers: &[(u32, bool)]) -> Option<Refusal> {
     Some(Refusal { number, place: 0 })
 }
 
-/// Records of so many stripes, and whether a counter is over the good tape's strokes, or not 0 past
-/// the last stripe.
-fn records(stripe_height: u32, stripes: u32) -> [(Record, bool); 7] {
-    let last = stripes - 1;
+/// Records of these stripes, taken to be so many, and whether a counter is over the good tape's
+/// strokes, or not 0 past the last stripe.
+fn records(stripes: &Stripes, there: u32) -> [(Record, bool); 7] {
+    let last = there - 1;
     let with = |counters: &[(u32, u32)]| {
-        let mut record = Record::new(stripe_height);
+        let mut record = Record {
+            count: stripes.count,
+            ends: stripes.ends,
+            ..ZEROS
+        };
         for &(stripe, counter) in counters {
             record.counters[stripe as usize] = counter;
         }
@@ -163,7 +169,7 @@ fn records(stripe_height: u32, stripes: u32) -> [(Record, bool); 7] {
         (with(&[(0, STROKES), (last, STROKES)]), false),
         (with(&[(0, STROKES + 1)]), true),
         (with(&[(last, u32::MAX)]), true),
-        (with(&[(stripes, 1)]), true),
+        (with(&[(there, 1)]), true),
         (with(&[(63, STROKES)]), true),
         (with(&[(0, u32::MAX), (63, u32::MAX)]), true),
     ]

@@ -2,35 +2,40 @@
 //! the original draws by them.
 
 use crate::draw::frame::{Drawn, Frame};
-use crate::draw::sample::{self, FILLED};
-use crate::draw::settings::{SLANT_MAX, Settings};
+use crate::draw::sample::{self, Calls, FILLED};
+use crate::draw::settings::SLANT_MAX;
 use crate::random::Random;
 use crate::sample::Sample;
+use crate::stripes::generate::{self as any, WAYS};
 use crate::tape::damage;
 use crate::work::call::{Ask, Call, Outcome};
-use crate::work::record::{Record, STRIPES, Stripes};
+use crate::work::record::{Ends, STRIPES, Stripes, ZEROS, ending, equal, unused};
 use crate::work::theirs::Theirs;
 use crate::work::{due, generate};
 use reference::Original;
 
-/// Ten have an Open that is refused.
+/// Fourteen have an Open that is refused.
 const JOBS: Sample = Sample {
     seed: 23,
-    entries: 80,
-    apart: 8,
+    entries: 84,
+    apart: 6,
 };
-/// Of each eight jobs this one, counted from 0, has 64 stripes.
+/// Of so many jobs this one, counted from 0, has 64 stripes.
+const TALL_APART: u64 = 8;
 const TALL: u64 = 3;
-/// Of the jobs that are refused this one, counted from 0, is so for its slant, and has no stripes.
-const SLANTED: u64 = 5;
+/// Of so many jobs the first two have stripes of one height.
+const EQUAL_APART: u64 = 7;
+/// Of so many that have others the last has numbers in entries that are not used, so many.
+const JUNK_APART: u64 = 5;
+const JUNK: usize = 3;
+/// How many unequal stripes a job has at most, where it has not 64.
+const FEW: usize = 16;
 /// How many letters a cue may have, and bytes its tape.
-const LETTERS: i64 = 40;
+const LETTERS: i64 = 35;
 const SHORT: usize = 200;
 /// How many Works of any kind a job may have, and how many of its last stripes are then finished.
 const WORKS: i64 = 9;
 const LAST: usize = 3;
-/// How many rows of a lowest line there are, and a few.
-const LINE: u32 = 18;
 /// The bytes of a Work.
 const WORK: usize = 5;
 /// How wide a tall picture may be, so that two bytes hold its buffer's length.
@@ -39,7 +44,8 @@ const SLIM: u32 = 100;
 struct Job {
     /// The next call, on what the one before left.
     call: Call,
-    stripe_height: u32,
+    /// What Open is handed, in numbers that two bytes hold.
+    stripes: Stripes,
     /// One after the other: a byte of stripe, and four of budget, high byte first.
     works: Vec<u8>,
     /// A line for each call that is made.
@@ -50,9 +56,15 @@ struct Job {
 pub fn entries(original: &Original) -> Vec<u8> {
     let mut bytes = Vec::new();
     for job in all(original) {
-        let calls = 1 + job.works.len() / WORK;
-        let (height, calls) = (job.stripe_height as u16, calls as u16);
-        sample::put(&mut bytes, &job.call.frame, height, calls, &job.works);
+        let Stripes { count, ends } = &job.stripes;
+        let zeros = ends.iter().rev().take_while(|&&end| end == 0).count();
+        let calls = Calls {
+            count: *count as u8,
+            ends: &ends[..STRIPES - zeros],
+            calls: 1 + (job.works.len() / WORK) as u16,
+            works: &job.works,
+        };
+        sample::put(&mut bytes, &job.call.frame, calls);
     }
     bytes
 }
@@ -71,21 +83,17 @@ fn all(original: &Original) -> impl Iterator<Item = Job> {
 
 fn done(original: &Original, random: &mut Random, number: u64) -> Job {
     let (mut frame, segments) = sample::caption(random, number, 1..=LETTERS, SHORT);
-    let stripe_height = if number % JOBS.apart == TALL {
-        tall(random, &mut frame, 0)
-    } else {
-        stripe_height(random, frame.settings.height)
-    };
+    let stripes = stripes(random, number, &mut frame);
     let settings = frame.settings;
     let theirs = Theirs::new(original, settings, segments);
-    let mut job = Job::new(frame, stripe_height);
+    let mut job = Job::new(frame, stripes);
     job.step(due::of_cue(&theirs, &job.call));
     for _ in 0..random.within(2..=WORKS) {
-        let stripe = stripe(random, &settings, &job.call.record);
+        let stripe = generate::low_stripe(random, &settings, &job.call.record);
         let budget = generate::budget(random, &settings, theirs.total);
         job.work(&theirs, stripe, budget);
     }
-    let stripes = job.call.record.stripes(settings.height);
+    let stripes = job.call.record.stripes();
     if random.one_in(2) {
         for stripe in stripes.saturating_sub(LAST)..stripes {
             job.work(&theirs, stripe as u32, u32::MAX);
@@ -94,59 +102,74 @@ fn done(original: &Original, random: &mut Random, number: u64) -> Job {
     job
 }
 
-/// One that the picture admits and two bytes hold.
-fn stripe_height(random: &mut Random, height: u32) -> u32 {
-    generate::stripe_height(random, height).min(u16::MAX.into())
+/// Stripes that the picture admits; now and then it is made higher for 64 of them.
+fn stripes(random: &mut Random, number: u64, frame: &mut Frame) -> Stripes {
+    let tall = number % TALL_APART == TALL;
+    if tall {
+        heighten(random, frame);
+    }
+    let height = frame.settings.height;
+    let mut stripes = match (number % EQUAL_APART < 2, tall) {
+        (true, true) => equal(height, height.div_ceil(STRIPES as u32)),
+        (true, false) => generate::equal(random, height),
+        (false, true) => ending(&any::cut(random, height, STRIPES as u32)),
+        (false, false) => few(random, height),
+    };
+    if number % JUNK_APART == JUNK_APART - 1 {
+        let entries = unused(stripes.count, &mut stripes.ends);
+        let some = JUNK.min(entries.len());
+        any::fill(random, &mut entries[..some], u16::MAX.into());
+    }
+    stripes
 }
 
-/// One of the lowest line's in half of the cases, or any.
-fn stripe(random: &mut Random, settings: &Settings, record: &Record) -> u32 {
-    if random.one_in(2) {
-        let line = settings.height.saturating_sub(settings.bottom_margin);
-        line.saturating_sub(random.within_u32(1..=LINE)) / record.stripe_height
-    } else {
-        generate::stripe(random, settings.height, record)
+/// Any stripes that keep the rule, but not many.
+fn few(random: &mut Random, height: u32) -> Stripes {
+    loop {
+        let stripes = ending(&any::ends(random, height));
+        if stripes.stripes() <= FEW {
+            return stripes;
+        }
     }
 }
 
-/// Makes the picture as high as 64 stripes and so many rows, and answers the height of a stripe.
-fn tall(random: &mut Random, frame: &mut Frame, more: u32) -> u32 {
-    let stripe_height = random.within_u32(1..=2);
+/// Makes the picture so high that it has 64 stripes of one row or two.
+fn heighten(random: &mut Random, frame: &mut Frame) {
     let behind = frame.bytes.len() - frame.settings.area();
     frame.settings.width = frame.settings.width.min(SLIM);
-    frame.settings.height = STRIPES as u32 * stripe_height + more;
+    frame.settings.height = STRIPES as u32 * random.within_u32(1..=2);
     frame.bytes.resize(frame.settings.area() + behind, FILLED);
-    stripe_height
 }
 
-/// A job whose Open is refused, so that its Works are not done: for its stripes, which are looked at
-/// before the tape, for its tape or for its buffer; once for its slant, which is looked at before the
-/// stripes.
+/// A job whose Open is refused, so that its Works are not done: by each way to break the stripes' rule,
+/// which is looked at before the tape; for its slant and for its buffer, which are looked at before the
+/// stripes; and for its tape.
 fn refused(original: &Original, random: &mut Random, number: u64, index: u64) -> Job {
-    let (kind, fault) = (index as usize % 5, index as u32 % 7 + 1);
-    let due = match index {
-        SLANTED => 8,
-        _ => [13, 13, fault, 9, 13][kind],
+    let ways = WAYS.len() as u64;
+    let due = if index < ways {
+        13
+    } else {
+        [8, 9, 3, 5][(index - ways) as usize]
     };
     loop {
         let (mut frame, _) = sample::caption(random, number, 1..=LETTERS, SHORT);
-        if matches!(kind, 2 | 4) {
+        if index % 2 == 1 || due < 8 {
             frame.tape = damage::tape(random);
         }
-        let stripe_height = match kind {
-            0 | 4 => 0,
-            1 => tall(random, &mut frame, 1),
-            _ => stripe_height(random, frame.settings.height),
+        let stripes = match due {
+            13 => broken(random, index as usize, &mut frame),
+            8 | 9 => ending(&[0]),
+            _ => few(random, frame.settings.height),
         };
-        if due == 8 {
-            frame.settings.house.slant = SLANT_MAX + 1;
-        }
-        if due == 9 {
-            let less = frame.settings.area().saturating_sub(1);
-            frame.bytes.truncate(less);
+        match due {
+            8 => frame.settings.house.slant = SLANT_MAX + 1,
+            9 => frame
+                .bytes
+                .truncate(frame.settings.area().saturating_sub(1)),
+            _ => {}
         }
         let short = frame.tape.len() <= SHORT;
-        let mut job = Job::new(frame, stripe_height);
+        let mut job = Job::new(frame, stripes);
         let outcome = due::of_call(original, &job.call);
         if short && matches!(&outcome, Err(refusal) if refusal.number == due) {
             job.step(outcome);
@@ -158,15 +181,37 @@ fn refused(original: &Original, random: &mut Random, number: u64, index: u64) ->
     }
 }
 
+/// The rule broken this way, by few ends, or by a count of 65 or 255 beside 64 entries that keep it.
+fn broken(random: &mut Random, way: usize, frame: &mut Frame) -> Stripes {
+    const FAR: u32 = u8::MAX as u32;
+    // The ways whose count is over 64.
+    const OVER: [usize; 2] = [6, 7];
+    loop {
+        heighten(random, frame);
+        let height = frame.settings.height;
+        let ends = any::ends(random, height);
+        let stripes = WAYS[way](random, height, ends);
+        let full = stripes.ends[STRIPES - 1] == height;
+        let small = stripes.ends.iter().all(|&end| end <= u16::MAX.into());
+        let fits = match OVER.contains(&way) {
+            true => full && matches!(stripes.count, 65 | FAR),
+            false => stripes.count as usize <= FEW,
+        };
+        if small && fits {
+            return stripes;
+        }
+    }
+}
+
 impl Job {
-    fn new(frame: Frame, stripe_height: u32) -> Job {
+    fn new(frame: Frame, stripes: Stripes) -> Job {
         Job {
             call: Call {
                 frame,
-                record: Record::new(0),
-                ask: Ask::Open { stripe_height },
+                record: ZEROS,
+                ask: Ask::Open { stripes },
             },
-            stripe_height,
+            stripes,
             works: Vec::new(),
             answers: String::new(),
         }

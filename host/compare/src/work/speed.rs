@@ -7,10 +7,11 @@ use crate::proved::{self, Ask, Buffers};
 use crate::tape::segments::MOST_LETTERS;
 use crate::tape::{ROOM, written};
 use crate::timing::{in_turn, micros};
-use crate::work::record::{Record, Stripes};
+use crate::work::record::{self, Ends, Record, STRIPES, Stripes, ending, equal};
 use crate::wrap;
 use std::fmt::Write;
 use std::hint::black_box;
+use std::time::Duration;
 
 const ONE: &str = "
 Work of one stroke at 1024 x 640, which 4096 letters fill, with outline 1, in µs: the first stroke,
@@ -31,6 +32,19 @@ of a 4th, a 16th and a 64th of the rows, rounded up.
 
 const PARTS: [u32; 4] = [1, 4, 16, 64];
 
+const LOW: &str = "
+Two lines of 32 letters at the bottom of 1920 x 1080, with outline 1, in thin stripes under a tall one
+and in stripes of one height, in µs: Draw, Open and then each stripe whole, this over Draw, and the
+longest of these Works.
+
+| Stripes | Count | Draw | Whole | Ratio | Longest Work |
+|---|---|---|---|---|---|
+";
+
+/// The rows of the tall stripe, and of each thin one.
+const TALL: usize = 900;
+const THIN: usize = 20;
+
 /// A cue's tape, and what its calls are buffers.
 struct Desk {
     settings: Settings,
@@ -39,18 +53,41 @@ struct Desk {
     picture: Vec<u8>,
 }
 
-/// Two tables: one stroke, and whole cues in stripes.
+/// Three tables: one stroke, whole cues in stripes of one height, and one in thin stripes.
 pub fn tables() -> String {
     let mut text = ONE.to_string();
     for letters in [64, 512, MOST_LETTERS] {
         for stripe_height in [640, 40] {
             let mut desk = Desk::new(&Scene::filling(letters));
-            let _ = writeln!(text, "| {letters} | {} |", desk.one_stroke(stripe_height));
+            let stripes = equal(desk.settings.height, stripe_height);
+            let _ = writeln!(text, "| {letters} | {} |", desk.one_stroke(&stripes));
         }
     }
     text += WHOLE;
     for scene in scenes().into_iter().chain([Scene::filling(MOST_LETTERS)]) {
         let _ = writeln!(text, "| {} | {} |", scene.name, Desk::new(&scene).whole());
+    }
+    text + &low()
+}
+
+fn low() -> String {
+    let mut text = LOW.to_string();
+    let mut desk = Desk::new(&scenes()[0]);
+    let height = desk.settings.height;
+    let thin: Vec<u32> = (TALL as u32..=height).step_by(THIN).collect();
+    let count = thin.len() as u32;
+    for (name, stripes) in [
+        (
+            format!("ending at {TALL}, and every {THIN} rows"),
+            ending(&thin),
+        ),
+        (
+            "as many of one height".to_string(),
+            equal(height, height.div_ceil(count)),
+        ),
+        (format!("{THIN} rows each"), equal(height, THIN as u32)),
+    ] {
+        let _ = writeln!(text, "| {name} | {} |", desk.longest(&stripes));
     }
     text
 }
@@ -66,9 +103,9 @@ impl Desk {
         }
     }
 
-    fn one_stroke(&mut self, stripe_height: u32) -> String {
-        let mut record = Record::new(stripe_height);
-        let stripes = record.stripes(self.settings.height);
+    fn one_stroke(&mut self, stripes: &Stripes) -> String {
+        let mut record = record::opened(stripes);
+        let stripes = record.stripes();
         let total = self.draw() as u32;
         let counters = [0, total / 2, total.saturating_sub(1)];
         let best: [_; 5] = in_turn(|call| match call {
@@ -88,15 +125,12 @@ impl Desk {
 
     fn whole(&mut self) -> String {
         let height = self.settings.height;
+        let parts = PARTS.map(|part| equal(height, height.div_ceil(part)));
         let best: [_; 5] = in_turn(|call| match call {
             4 => {
                 self.draw();
             }
-            _ => {
-                let mut record = Record::new(0);
-                self.open(height.div_ceil(PARTS[call]), &mut record);
-                self.each_stripe(&mut record, u32::MAX);
-            }
+            _ => self.open_and_all(&parts[call]),
         });
         let [parts @ .., draw] = best.map(micros);
         let mut text = format!("{draw:.2}");
@@ -104,6 +138,26 @@ impl Desk {
             let _ = write!(text, " | {part:.2} | {:.2}", part / draw);
         }
         text
+    }
+
+    fn longest(&mut self, stripes: &Stripes) -> String {
+        let [whole, draw] = in_turn(|call| match call {
+            0 => self.open_and_all(stripes),
+            _ => {
+                self.draw();
+            }
+        })
+        .map(micros);
+        let mut record = record::opened(stripes);
+        let works: [Duration; STRIPES] = in_turn(|stripe| {
+            if stripe < stripes.stripes() {
+                record.counters[stripe] = 0;
+                self.work(&mut record, stripe as u32, u32::MAX);
+            }
+        });
+        let longest = works.map(micros).into_iter().fold(0.0, f64::max);
+        let (count, ratio) = (stripes.count, whole / draw);
+        format!("{count} | {draw:.2} | {whole:.2} | {ratio:.2} | {longest:.2}")
     }
 
     /// What a call is told and lent.
@@ -128,18 +182,25 @@ impl Desk {
         let _ = black_box(wrap::proved::wrap(buffers.tape, buffers.workspace, limit));
     }
 
-    fn open(&mut self, stripe_height: u32, record: &mut Record) {
+    /// Opens, and then does each stripe whole.
+    fn open_and_all(&mut self, stripes: &Stripes) {
+        let mut record = record::ZEROS;
         let (settings, buffers) = self.told();
-        let ask = Ask::Open { stripe_height };
-        let _ = black_box(proved::ask(&settings, buffers, record, ask));
+        let ask = Ask::Open { stripes: *stripes };
+        let _ = black_box(proved::ask(&settings, buffers, &mut record, ask));
+        self.each_stripe(&mut record, u32::MAX);
     }
 
     /// Works with the budget on every stripe of the record.
     fn each_stripe(&mut self, record: &mut Record, budget: u32) {
-        for stripe in 0..record.stripes(self.settings.height) as u32 {
-            let (settings, buffers) = self.told();
-            let ask = Ask::Work { stripe, budget };
-            let _ = black_box(proved::ask(&settings, buffers, record, ask));
+        for stripe in 0..record.count {
+            self.work(record, stripe, budget);
         }
+    }
+
+    fn work(&mut self, record: &mut Record, stripe: u32, budget: u32) {
+        let (settings, buffers) = self.told();
+        let ask = Ask::Work { stripe, budget };
+        let _ = black_box(proved::ask(&settings, buffers, record, ask));
     }
 }

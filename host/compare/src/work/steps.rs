@@ -9,6 +9,7 @@ use crate::font::strokes::STYLES;
 use crate::tape::segments::each_letter;
 use crate::work::job::Job;
 use crate::work::kinds::Kinds;
+use crate::work::record;
 use crate::wrap::cues::{self, Cue};
 use crate::wrap::limits;
 use oxideav_core::Segment;
@@ -99,7 +100,8 @@ pub fn each_stroke(
     stripe_height: u32,
 ) -> Result<(), String> {
     let bytes = vec![FILLED; settings.area() + BEHIND];
-    let mut job = Job::open(original, settings, cue, bytes, stripe_height)?;
+    let stripes = record::equal(settings.height, stripe_height);
+    let mut job = Job::open(original, settings, cue, bytes, stripes)?;
     let kinds = &mut Kinds::default();
     for _ in 0..=job.theirs.total {
         job.each(0..job.stripes(), 1, kinds)?;
@@ -109,9 +111,9 @@ pub fn each_stroke(
 
 /// Does few and many strokes on each stripe but the last, and then the rest, there all at once.
 pub fn long(original: &Original, settings: Settings, cue: Cue) -> Result<(), String> {
-    let stripe_height = settings.height.div_ceil(STRIPES);
+    let stripes = record::equal(settings.height, settings.height.div_ceil(STRIPES));
     let bytes = vec![FILLED; settings.area()];
-    let mut job = Job::open(original, settings, cue, bytes, stripe_height)?;
+    let mut job = Job::open(original, settings, cue, bytes, stripes)?;
     let kinds = &mut Kinds::default();
     for budget in BUDGETS {
         job.each(0..job.stripes().saturating_sub(1), budget, kinds)?;

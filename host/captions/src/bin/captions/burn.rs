@@ -3,8 +3,8 @@
 use crate::options::{CHOICES, Options};
 use crate::output::{self, Failure, Outcome};
 use crate::progress::Progress;
-use crate::{args, fault, input};
-use captions::{Cause, Job, Refusal, STRIPES_MAX, Settings, Workspace, draw};
+use crate::{args, fault, input, stripes};
+use captions::{Cause, Job, Refusal, Settings, Workspace, draw};
 
 const ABOUT: &str = "\
 usage: captions burn [options] < cue.tape > frame.pam
@@ -24,11 +24,21 @@ pub fn command(words: &[String]) -> Outcome {
     }
     let mut options = Options::new();
     args::parse("burn", &CHOICES, words, &mut options)?;
-    if options.budget.is_some() && options.stripes.is_none() {
-        return Err(args::usage("burn", "--budget needs --stripes"));
+    if let Some(wrong) = clash(&options) {
+        return Err(args::usage("burn", wrong));
     }
     let (_, picture) = frame(&options)?;
     output::write(&pam(&options.settings, &picture))
+}
+
+/// What is wrong with options that do not go together.
+fn clash(options: &Options) -> Option<&'static str> {
+    let asked = [options.stripes.is_some(), options.stripe_ends.is_some()];
+    match (asked, options.budget) {
+        ([true, true], _) => Some("--stripes and --stripe-ends cannot both be given"),
+        ([false, false], Some(_)) => Some("--budget needs --stripes or --stripe-ends"),
+        _ => None,
+    }
 }
 
 /// How many strokes the cue of the tape has that is read, and its picture.
@@ -42,20 +52,27 @@ pub fn frame(options: &Options) -> Result<(u32, Vec<u8>), Failure> {
 
 fn burn(options: &Options, tape: &[u8], picture: &mut [u8]) -> captions::Result<u32> {
     let mut workspace = Workspace::new();
-    let Some(height) = options.stripes else {
+    let Some(asked) = stripes::asked(options) else {
         return draw(&options.settings, tape, &mut workspace, picture);
     };
-    let mut job = Job::open(&options.settings, tape, &mut workspace, picture, height)?;
+    let stripes = asked.map_err(|unfit| {
+        // Settings and lengths come before stripes, as in Open; Draw says what is wrong with them.
+        let drawn = draw(&options.settings, tape, &mut workspace, picture).err();
+        drawn
+            .filter(|refusal| !refusal.cause.is_in_tape())
+            .unwrap_or(unfit)
+    })?;
+    let mut job = Job::open(&options.settings, tape, &mut workspace, picture, &stripes)?;
     let budget = options.budget.unwrap_or(u32::MAX);
     let mut progress = Progress::new();
-    let done = stripes(&mut job, &mut workspace, budget, &mut progress);
+    let done = work(&mut job, &mut workspace, budget, &mut progress);
     progress.clear();
     done.map(|()| job.total())
 }
 
 /// Does all strokes, stripe by stripe from the top; the budget is 1 at least, so that each Work does
 /// some.
-fn stripes(
+fn work(
     job: &mut Job,
     workspace: &mut Workspace,
     budget: u32,
@@ -82,26 +99,11 @@ fn line(job: &Job, stripe: u32) -> String {
 }
 
 fn refused(options: &Options, tape: &[u8], refusal: Refusal) -> Failure {
-    match (refusal.cause, options.stripes) {
-        (Cause::OutOfRange, _) => fault::with_words(refusal, &options.out_of_range().join("; ")),
-        (Cause::StripesUnfit, Some(rows)) => {
-            let words = stripe_height(rows, options.settings.height);
-            fault::with_words(refusal, &words)
-        }
+    match refusal.cause {
+        Cause::OutOfRange => fault::with_words(refusal, &options.out_of_range().join("; ")),
+        Cause::StripesUnfit => fault::with_words(refusal, &stripes::unfit(options)),
         _ => fault::failure(tape, refusal),
     }
-}
-
-fn stripe_height(rows: u32, height: u32) -> String {
-    if rows == 0 {
-        return "--stripes is 0, and a stripe has a row at least".to_string();
-    }
-    let stripes = height.div_ceil(rows);
-    let least = height.div_ceil(STRIPES_MAX);
-    format!(
-        "--stripes {rows} cuts {height} rows into {stripes} stripes, and {STRIPES_MAX} are the \
-         most: take {least} or more"
-    )
 }
 
 fn pam(settings: &Settings, picture: &[u8]) -> Vec<u8> {

@@ -12,6 +12,7 @@ mod options;
 mod output;
 mod progress;
 mod show;
+mod stripes;
 mod tape;
 mod text;
 

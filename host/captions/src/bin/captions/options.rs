@@ -10,8 +10,10 @@ const COLOR: &str = "a color in hexadecimal, RRGGBB or RRGGBBAA";
 
 pub struct Options {
     pub settings: Settings,
-    /// How many rows a stripe has; none where the frame is drawn whole.
+    /// How many rows a stripe has.
     pub stripes: Option<u32>,
+    /// Where stripes end. Neither is there where the frame is drawn whole.
+    pub stripe_ends: Option<Vec<u32>>,
     /// How many strokes are done at a time; none where they are all.
     pub budget: Option<u32>,
 }
@@ -21,6 +23,7 @@ impl Options {
         Options {
             settings: Settings::new(640, 360),
             stripes: None,
+            stripe_ends: None,
             budget: None,
         }
     }
@@ -54,7 +57,7 @@ impl Options {
 /// How many of the choices are settings; those behind them say how a frame is drawn.
 pub const SETTINGS: usize = 12;
 
-pub const CHOICES: [Choice<Options>; 14] = [
+pub const CHOICES: [Choice<Options>; 15] = [
     Choice {
         name: "--width",
         value: "PIXELS",
@@ -147,10 +150,17 @@ pub const CHOICES: [Choice<Options>; 14] = [
         set: |options, value| number(options.stripes.insert(0), value),
     },
     Choice {
+        name: "--stripe-ends",
+        value: "ROWS",
+        takes: "rows with commas between them, as 300,340,360",
+        more: "draws in stripes that end before these, at most 64",
+        set: |options, value| ends(options.stripe_ends.insert(Vec::new()), value),
+    },
+    Choice {
         name: "--budget",
         value: "STROKES",
         takes: "a number from 1 to 4294967295",
-        more: "with --stripes: so many at a time; all by default",
+        more: "in stripes: so many at a time; all by default",
         set: |options, value| {
             number(options.budget.insert(0), value)?;
             options.budget.filter(|budget| *budget > 0).map(drop)
@@ -160,6 +170,16 @@ pub const CHOICES: [Choice<Options>; 14] = [
 
 fn number(to: &mut u32, value: &str) -> Option<()> {
     *to = value.parse().ok()?;
+    Some(())
+}
+
+/// An empty value has none, and is right for a frame without rows.
+fn ends(to: &mut Vec<u32>, value: &str) -> Option<()> {
+    if value.is_empty() {
+        return Some(());
+    }
+    let numbers = value.split(',').map(|word| word.parse().ok());
+    *to = numbers.collect::<Option<Vec<u32>>>()?;
     Some(())
 }
 
