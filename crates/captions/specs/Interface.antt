@@ -49,7 +49,7 @@ WrapAnswered tape ws ws' L result = Numbered (Wrapped tape ws ws' L) result
 abbrev pub DrawAnswered : List ℕ → Tapes → List ℕ → List ℕ → List ℕ → List ℕ → ℕ → Type 0
 DrawAnswered settings tape ws ws' picture picture' result = Numbered (Drawn (settingsOf settings) tape ws ws' picture picture') result
 
--- Open: the stripes and the record that it gives, as numbers, too
+-- Open: the stripes, and the record that it gives, as numbers too
 abbrev pub OpenAnswered : List ℕ → Tapes → List ℕ → List ℕ → List ℕ → List ℕ → List ℕ → List ℕ → ℕ → Type 0
 OpenAnswered settings tape ws ws' picture picture' stripes words' result =
     Numbered

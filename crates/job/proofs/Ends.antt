@@ -235,12 +235,12 @@ equal-stripes : (s : Settings) (h : ℕ) → EqualStripes s h
 unfolding hasStripe
 equal-stripes s h =
     record {
-      sameFault = equal-fault s h;
-      sameStripes =
+      oldFault = equal-fault s h;
+      oldStripes =
           λ pos k. rw (equal-is h (s .height) pos, ends-length h (s .height) pos)
           (same-test k (number h (s .height) pos) (k * h) (s .height) (there h (s .height) pos k) (low h (s .height) pos k));
-      sameStripe = λ pos y l. rw (equal-is h (s .height) pos) (row-in h (s .height) pos y l);
+      oldStripe = λ pos y l. rw (equal-is h (s .height) pos) (row-in h (s .height) pos y l);
     }
 
 pub stripes-by-ends : StripesByEnds
-stripes-by-ends = record { rule = refused-ends; places = stripe-rows; unread = unread; equal = equal-stripes }
+stripes-by-ends = record { refusedEnds = refused-ends; stripeRows = stripe-rows; unreadEntries = unread; equalStripes = equal-stripes }

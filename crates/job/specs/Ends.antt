@@ -63,17 +63,17 @@ pub record UnreadEntries (s : Settings) (a b : JobRecord) : Type 0 where
 
 -- ---- stripes of one height
 
--- Stripes of h rows are refused where there was a 13 for their height once: it is 0, or gives more than 64. Stripe k is
--- there where row k · h is, and row y is in stripe y / h.
+-- Stripes of h rows are refused exactly where h was, while stripes had one height: it is 0, or gives more than 64.
+-- Stripe k is there where row k · h is, and row y is in stripe y / h.
 pub record EqualStripes (s : Settings) (h : ℕ) : Type 0 where
-  pub sameFault : stripesFault s (equalEnds h (s .height)) ≡ cond (eqb h 0 || ltb (mostStripes * h) (s .height)) 13 0
-  pub sameStripes : 0 < h → (k : ℕ) → hasStripe (equalEnds h (s .height)) k ≡ ltb (k * h) (s .height)
-  pub sameStripe : 0 < h → (y : ℕ) → y < s .height → stripeOf (equalEnds h (s .height)) y ≡ y / h
+  pub oldFault : stripesFault s (equalEnds h (s .height)) ≡ cond (eqb h 0 || ltb (mostStripes * h) (s .height)) 13 0
+  pub oldStripes : 0 < h → (k : ℕ) → hasStripe (equalEnds h (s .height)) k ≡ ltb (k * h) (s .height)
+  pub oldStripe : 0 < h → (y : ℕ) → y < s .height → stripeOf (equalEnds h (s .height)) y ≡ y / h
 
 -- ---- the claim
 
 pub record StripesByEnds : Type 0 where
-  pub rule : (s : Settings) (room size : ℕ) (tape : Tapes) → RefusedEnds s room size tape
-  pub places : (s : Settings) (d : Division) → stripesFault s d ≡ 0 → StripeRows s d
-  pub unread : (s : Settings) (a b : JobRecord) → SameUsed (a .stripes) (b .stripes) → a .counters ≡ b .counters → UnreadEntries s a b
-  pub equal : (s : Settings) (h : ℕ) → EqualStripes s h
+  pub refusedEnds : (s : Settings) (room size : ℕ) (tape : Tapes) → RefusedEnds s room size tape
+  pub stripeRows : (s : Settings) (d : Division) → stripesFault s d ≡ 0 → StripeRows s d
+  pub unreadEntries : (s : Settings) (a b : JobRecord) → SameUsed (a .stripes) (b .stripes) → a .counters ≡ b .counters → UnreadEntries s a b
+  pub equalStripes : (s : Settings) (h : ℕ) → EqualStripes s h

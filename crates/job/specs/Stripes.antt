@@ -44,7 +44,7 @@ risesTo height row [] = eqb row height
 risesTo height row (end ∷ d) = ltb row end && risesTo height end d
 
 -- What is refused of a division: 13 where stripes are more than 64, or their ends do not rise from row 0 to the
--- picture's height; else 0. So a picture without rows has no stripe, and every other has one.
+-- picture's height; else 0. So a picture without rows has no stripe, and every other has one at least.
 unfoldable pub stripesFault : Settings → Division → ℕ
 stripesFault s d = cond (ltb mostStripes (length d) || not (risesTo (s .height) 0 d)) 13 0
 
