@@ -16,7 +16,7 @@ use Rattle.job.specs.Worked.{Opened, Worked}
 use Rattle.job.specs.History.{Entry, History, afterOpen, afterWork}
 use Rattle.compositor.proofs.Answers.{Few}
 use Rattle.job.proofs.Answers.{open-bounded}
-use Rattle.job.proofs.Demand3.{entries-long, demand-3, possible}
+use Rattle.job.proofs.Demand3.{end-rows-long, demand-3, possible}
 use Rattle.captions.specs.Interface.{settingsOf, stripesOf, recordOf, OpenAnswered, WorkAnswered}
 use Rattle.captions.specs.HistoryInC.{HistoryInC, afterOpenInC, afterWorkInC, Demand3InC, PossibleInC}
 use Rattle.captions.proofs.Records.{wordsOf, there-and-back}
@@ -65,12 +65,12 @@ module _ (settings : List ℕ) (tape : Tapes) (stripes bytes : List ℕ) where
       let few : Few (found .given) = rw (found .means) at (open-bounded (settingsOf settings) (length ws) (length bytes) tape d) in
       let count = found .counts in
       let low : packed (r .answer) < 2 ^ 32 = rw e (omega arith) in
-      let long = entries-long (settingsOf settings) tape d bytes (afterOpen {ws = ws} {r = r} total o e) in
+      let long = end-rows-long (settingsOf settings) tape d bytes (afterOpen {ws = ws} {r = r} total o e) in
       afterOpenInC (packed (r .answer)) (open-answered {r = r} long o) low
   carried-back (afterWork {entries} {ws} {picture = picture} {picture' = picture'} {job = job} {r = r} k n before w) =
       let back = work-packs (settingsOf settings) tape ws picture job k n w .back in
-      let long = entries-long (settingsOf settings) tape d bytes before in
-      let long' = entries-long (settingsOf settings) tape d bytes (afterWork {ws = ws} {picture' = picture'} {r = r} k n before w) in
+      let long = end-rows-long (settingsOf settings) tape d bytes before in
+      let long' = end-rows-long (settingsOf settings) tape d bytes (afterWork {ws = ws} {picture' = picture'} {r = r} k n before w) in
       subst
       (λ (a : Answer). HistoryInC settings tape stripes bytes (record { stripe = k; budget = n; room = length ws; answer = a } ∷ entries) picture' (wordsOf (r .job)))
       back

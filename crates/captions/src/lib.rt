@@ -137,8 +137,8 @@ pub extern "C" fn captions_open(
         (now (picture .entry)) (now (picture .exit)) (now (stripes .entry)) (now («record» .exit)) r ⌝ }
 {
     let s = settings_of(*settings);
-    let division = stripes_of(*stripes);
-    let opened = job::open(s, tape, workspace, picture, division);
+    let handed = stripes_of(*stripes);
+    let opened = job::open(s, tape, workspace, picture, handed);
     let given = opened.job;
     *record = words_of(given);
     let answer = opened.answer;

@@ -310,10 +310,10 @@ module _ (s : Settings) (tape : Tapes) (d : Division) (bytes : List ℕ) where
             (kept-work s tape d bytes ts (found .1) k n (length ws)),
       )
 
--- a record has 64 entries
-pub entries-long : (s : Settings) (tape : Tapes) (d : Division) (bytes : List ℕ) {entries : List Entry} {picture : List ℕ} {job : JobRecord}
+-- a record has 64 end rows
+pub end-rows-long : (s : Settings) (tape : Tapes) (d : Division) (bytes : List ℕ) {entries : List Entry} {picture : List ℕ} {job : JobRecord}
     → History s tape d bytes entries picture job → length (job .stripes .«end_rows») ≡ mostStripes
-entries-long s tape d bytes history =
+end-rows-long s tape d bytes history =
     let found = all-kept s tape d bytes history in
     ap (λ (x : Stripes). length (x .«end_rows»)) (found .1 .stripes) ∙ kept-length d (stripes-few s d (fit s tape d bytes (found .0) (found .1)))
 

@@ -20,7 +20,7 @@ use Rattle.job.specs.declared.Stripes.{Stripes}
 use Rattle.job.specs.declared.JobRecord.{JobRecord}
 use Rattle.job.specs.Stripes.{Division, mostStripes, endRow, firstRow, stripeOf, hasStripe, risesTo, stripesFault, equalEnds, divisionOf, withCounter, countersUnsound}
 use Rattle.job.specs.Work.{openCall, onStripe, stripeCall, workCall}
-use Rattle.job.specs.Ends.{Rising, RefusedEnds, StripeRows, SameUsed, UnreadEntries, EqualStripes, StripesByEnds}
+use Rattle.job.specs.Ends.{Rising, RefusedEnds, StripeRows, SameUsed, UnreadEnds, EqualStripes, StripesByEnds}
 use Rattle.job.proofs.Rising.{firstFrom, first-under-end, last-is, row-of, row-lies}
 use Rattle.job.proofs.Division.{entry-at, used-length, fault-by, stripes-few, stripes-rise, stripe-there}
 
@@ -105,7 +105,7 @@ same-division a b same =
     let low : k < a .«stripe_count» = omega arith in
     entry-at a k low ∙ same .sameEnds k low ∙ sym (entry-at b k (rw (← same .sameCount) low)))
 
-unread : (s : Settings) (a b : JobRecord) → SameUsed (a .stripes) (b .stripes) → a .counters ≡ b .counters → UnreadEntries s a b
+unread : (s : Settings) (a b : JobRecord) → SameUsed (a .stripes) (b .stripes) → a .counters ≡ b .counters → UnreadEnds s a b
 unfolding workCall stripeCall withCounter
 unread s a b same counters =
     let d = same-division (a .stripes) (b .stripes) same in
@@ -243,4 +243,4 @@ equal-stripes s h =
     }
 
 pub stripes-by-ends : StripesByEnds
-stripes-by-ends = record { refusedEnds = refused-ends; stripeRows = stripe-rows; unreadEntries = unread; equalStripes = equal-stripes }
+stripes-by-ends = record { refusedEnds = refused-ends; stripeRows = stripe-rows; unreadEnds = unread; equalStripes = equal-stripes }

@@ -45,7 +45,7 @@ pub record StripeRows (s : Settings) (d : Division) : Type 0 where
 
 -- ---- what is never read
 
--- stripes that differ in unused entries alone
+-- stripes that differ in unused end rows alone
 pub record SameUsed (a b : Stripes) : Type 0 where
   pub sameCount : a .«stripe_count» ≡ b .«stripe_count»
   pub sameLength : length (a .«end_rows») ≡ length (b .«end_rows»)
@@ -53,7 +53,7 @@ pub record SameUsed (a b : Stripes) : Type 0 where
 
 -- Open comes to the same with either, since it is told the division alone. So does Work on records that differ there
 -- alone; it leaves the same pictures and counters, and hands the stripes back as they were.
-pub record UnreadEntries (s : Settings) (a b : JobRecord) : Type 0 where
+pub record UnreadEnds (s : Settings) (a b : JobRecord) : Type 0 where
   pub sameDivision : divisionOf (a .stripes) ≡ divisionOf (b .stripes)
   pub sameCall : (room size : ℕ) (tape : Tapes) (k n : ℕ) → workCall s room size tape a k n ≡ workCall s room size tape b k n
   pub samePicture : (k : ℕ) (bytes : List ℕ) (done : List Stroke) → stepped s a k bytes done .0 ≡ stepped s b k bytes done .0
@@ -75,5 +75,5 @@ pub record EqualStripes (s : Settings) (h : ℕ) : Type 0 where
 pub record StripesByEnds : Type 0 where
   pub refusedEnds : (s : Settings) (room size : ℕ) (tape : Tapes) → RefusedEnds s room size tape
   pub stripeRows : (s : Settings) (d : Division) → stripesFault s d ≡ 0 → StripeRows s d
-  pub unreadEntries : (s : Settings) (a b : JobRecord) → SameUsed (a .stripes) (b .stripes) → a .counters ≡ b .counters → UnreadEntries s a b
+  pub unreadEnds : (s : Settings) (a b : JobRecord) → SameUsed (a .stripes) (b .stripes) → a .counters ≡ b .counters → UnreadEnds s a b
   pub equalStripes : (s : Settings) (h : ℕ) → EqualStripes s h

@@ -79,8 +79,8 @@ rowOf s bytes y = take (rowBytes s) (drop (y * rowBytes s) bytes)
 
 -- After such calls, where the caption has the strokes ts: each row holds what the first c strokes leave on a row of
 -- zeros, c that of its stripe, which is the smaller of T and the sum of the budgets accepted for it; the bytes after
--- the picture are as they were; the record has the division, 0 in the entries that it does not use, and 64 counters,
--- that of stripe k its c, which is 0 past the last stripe; and each call answered what was due.
+-- the picture are as they were; the record has the division, 0 in the end rows that it does not use, and 64
+-- counters, that of stripe k its c, which is 0 past the last stripe; and each call answered what was due.
 pub record PartlyDrawn
     (s : Settings)
     (ts : List Stroke)

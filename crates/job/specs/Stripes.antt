@@ -29,7 +29,7 @@ unfoldable pub stripeOf : Division → ℕ → ℕ
 stripeOf [] y = 0
 stripeOf (end ∷ d) y = cond (ltb y end) 0 (suc (stripeOf d y))
 
--- the picture has a stripe k
+-- there is a stripe k
 unfoldable pub hasStripe : Division → ℕ → Bool
 hasStripe d k = ltb k (length d)
 
@@ -57,12 +57,12 @@ equalEnds h height = cond (eqb h 0) (0 ∷ []) (map (λ k. min (suc k * h) heigh
 
 -- ---- stripes as they are handed over
 
--- The division that is handed over: the end rows, as many as are counted. The entries behind them are not read. A count
--- above 64 asks for an entry more than there are, which is then 0; that is refused, whatever the others are.
+-- The division that is handed over: the end rows, as many as are counted. Those behind them are not read. A count above
+-- 64 asks for one more than there are, which is then 0; that is refused, whatever the others are.
 unfoldable pub divisionOf : Stripes → Division
 divisionOf stripes = take (stripes .«stripe_count») (stripes .«end_rows» ++ 0 ∷ [])
 
--- a division as it is kept, with 0 in the entries that it does not use
+-- a division as it is kept, with 0 in the end rows that it does not use
 unfoldable pub stripesWith : Division → Stripes
 stripesWith d = record { «stripe_count» = length d; «end_rows» = d ++ replicate (mostStripes - length d) 0 }
 

@@ -18,7 +18,7 @@ use compositor::strokes::Window;
 use tape::Answer;
 
 // How a picture is divided into stripes, from the top: how many there are, and the end row of each,
-// which is the first row below it. The entries from the count on are not read.
+// which is the first row below it. Those from the count on are not read.
 pub struct Stripes {
     pub stripe_count: u32,
     pub end_rows: [u32; 64],
@@ -37,7 +37,7 @@ pub struct JobAnswer {
 }
 
 impl Stripes {
-    // The same with 0 in the entries that are not read.
+    // The same with 0 in the end rows that are not read.
     fn used(self) -> Stripes
         requires { ⌜ length (divisionOf self) ≤ mostStripes ⌝ }
         ensures { λ r. ⌜ r ≡ stripesWith (divisionOf self) ⌝ }

@@ -6,7 +6,7 @@ use captions::raw::{self, Buffers};
 use captions::{
     Cause, Job, RECORD_BYTES, Record, Refusal, Result, Settings, WORKSPACE_BYTES, Workspace, draw,
 };
-use common::{PAINT, Random, equal, painted, plain, record, tape};
+use common::{PAINT, Random, equal, painted, plain, raw_plain, record, tape};
 
 const AFTER: usize = 8;
 
@@ -382,18 +382,9 @@ fn any_record(random: &mut Random, total: u32) -> Record {
 fn refused_by_work(tape: &[u8], mut record: Record) -> u32 {
     // Those of `cue`.
     let settings = raw::Settings {
-        width: 48,
-        height: 41,
         default_color: 0x5AC8_0A8C,
-        outline_color: 0x0000_00FF,
-        line_height: 16,
-        bottom_margin: 0,
         outline: 1,
-        alignment: 1,
-        glyph_mode: 0,
-        side_margin: 8,
-        slant: 2,
-        outline_cap: 2,
+        ..raw_plain(48, 41)
     };
     let buffers = Buffers {
         tape,

@@ -7,7 +7,7 @@ use captions::{
     Cause, Job, OLD_RECORD_BYTES, Record, Refusal, Result, STRIPES_MAX, Settings, Stripes,
     WORKSPACE_BYTES, Workspace, draw,
 };
-use common::{PAINT, Random, painted, plain, record, record_of, rising_ends, tape};
+use common::{PAINT, Random, painted, plain, raw_plain, record, record_of, rising_ends, tape};
 
 const AFTER: usize = 8;
 const WIDTH: u32 = 40;
@@ -27,18 +27,10 @@ fn cue(height: u32) -> (Settings, Vec<u8>, u32) {
 /// The settings of `cue` as the library takes them.
 fn raw_settings(height: u32) -> raw::Settings {
     raw::Settings {
-        width: WIDTH,
-        height,
         default_color: 0x5AC8_0A8C,
         outline_color: 0xC81E_3C5A,
-        line_height: 16,
-        bottom_margin: 0,
         outline: 1,
-        alignment: 1,
-        glyph_mode: 0,
-        side_margin: 8,
-        slant: 2,
-        outline_cap: 2,
+        ..raw_plain(WIDTH, height)
     }
 }
 

@@ -33,6 +33,24 @@ pub fn plain(width: u32, height: u32) -> Settings {
     }
 }
 
+/// `plain` as the library takes it.
+pub fn raw_plain(width: u32, height: u32) -> raw::Settings {
+    raw::Settings {
+        width,
+        height,
+        default_color: 0xFFFF_FFFF,
+        outline_color: 0x0000_00FF,
+        line_height: 16,
+        bottom_margin: 0,
+        outline: 0,
+        alignment: 1,
+        glyph_mode: 0,
+        side_margin: 8,
+        slant: 2,
+        outline_cap: 2,
+    }
+}
+
 /// A buffer as long as the picture and so many bytes more, painted.
 pub fn painted(settings: &Settings, more: usize) -> Vec<u8> {
     vec![PAINT; settings.new_picture().len() + more]
