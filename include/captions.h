@@ -2,18 +2,17 @@
  * Bitmap captions: the four functions of libcaptions.a, for C99 and C++11.
  *
  * A cue comes in as a tape of bytes. captions_wrap breaks it into lines and captions_draw draws it
- * whole; captions_open and captions_work draw it in stripes, a budget of strokes at a time. Cues
- * that are on screen together are drawn as a stack of tapes.
+ * whole; captions_open and captions_work draw it in stripes, a budget of strokes at a time.
  *
  * Every call is total: it takes any numbers, bytes and lengths, and returns. A length is that of
- * the buffer before it, in bytes, and tape_count that of tape_ends, in numbers; one of length 0 may
- * be NULL, settings, stripes and a record may not. What one call is lent must not overlap.
- * Settings, tape_ends, stripes and a record are aligned as a uint32_t is; buffers of bytes need no
- * alignment. No call keeps anything, allocates or uses errno, so any number of threads may call,
- * each with its own buffers. A call needs at most CAPTIONS_STACK_BYTES of its thread's call stack.
+ * the buffer before it, in bytes; one of length 0 may be NULL, settings, stripes and a record may
+ * not. What one call is lent must not overlap. Settings, stripes and a record are aligned as a
+ * uint32_t is; buffers need no alignment. No call keeps anything, allocates or uses errno, so any
+ * number of threads may call, each with its own buffers. A call needs at most CAPTIONS_STACK_BYTES
+ * of stack.
  *
  * The platform. x86-64 Linux, with the System V calling convention. The numbers of settings,
- * tape_ends, stripes and records are in the machine's byte order, little endian.
+ * stripes and records are in the machine's byte order, little endian.
  *
  * Answers. An answer has two halves of 32 bits. The upper half is 0 and the lower is what the call
  * answers; or the upper is a refusal's number and the lower its place. See captions_refused,
@@ -23,18 +22,9 @@
  * operands, high byte first. The outer list ends with the tape, every other list and a voice's name
  * with CAPTIONS_END.
  *
- * Stack. One to CAPTIONS_TAPES_MAX tapes that make one picture, end to end in one buffer. tape_ends
- * has for each the offset in the buffer where it ends: a tape has the bytes from the end of the one
- * before it, or from 0, up to its own end, not included. So the ends never fall, and the last is
- * the buffer's length; equal ends are an empty tape. For one tape see captions_one_tape. Each tape
- * is read for itself, and has CAPTIONS_TAPE_MAX bytes and CAPTIONS_LETTERS_MAX letters at most. The
- * first that has lines stands as it would alone. The lowest line of each later one stands one line
- * height above the topmost line of those before it, letterless lines counted too, and beyond the
- * picture's top where there is no more room. A tape without lines takes no room.
- *
- * The workspace. At least CAPTIONS_WORKSPACE_MIN bytes, for any stack. Nothing depends on what it
- * held. After the refusals 8 to 11, 13 and 18 it is as it was; else, but for the lines of
- * captions_wrap, it may hold anything.
+ * The workspace. At least CAPTIONS_WORKSPACE_MIN bytes. Nothing depends on what it held. After the
+ * refusals 8 to 11 and 13 it is as it was; else, but for the lines of captions_wrap, it may hold
+ * anything.
  *
  * The picture. A buffer that begins with width * height * 4 bytes: rows from the top, in each the
  * pixels from the left, of each the bytes red, green, blue, alpha. The bytes after the picture
@@ -47,9 +37,8 @@
  *
  * Strokes. A letter on a line that has ink is one stroke, and 8 more for each pixel of its outline,
  * up to outline_cap. A letter without ink has none: spaces and controls, code points 00 to 20 and
- * 7F to A0, and AD, in every style. A cue's strokes have one order, and those of a stack are its
- * tapes' strokes, tape after tape. T is how many they all are, and depends on the tapes, the
- * outline and its cap alone.
+ * 7F to A0, and AD, in every style. A cue's strokes have one order; T is how many they are, and
+ * depends on the tape, the outline and its cap alone.
  */
 #ifndef CAPTIONS_H
 #define CAPTIONS_H
@@ -71,14 +60,11 @@ extern "C" {
  * stripes were of one height, but for the last: Open took that height, and a record had it first
  * and then the counters. A program of then is compiled anew. A record of then becomes one of now:
  * its count and ends are those that captions_stripes_of_height gives for the picture's height and
- * that one, and its counters stay. Until version 6 Draw, Open and Work took one tape and its length
- * where they take a stack. A program of then is compiled anew, and a record of then stays good for
- * its one tape.
+ * that one, and its counters stay.
  */
-#define CAPTIONS_VERSION 6
+#define CAPTIONS_VERSION 5
 
 #define CAPTIONS_TAPE_MAX 16384       /* bytes of a tape */
-#define CAPTIONS_TAPES_MAX 8          /* tapes of a stack */
 #define CAPTIONS_WORKSPACE_MIN 65536  /* bytes of a workspace */
 #define CAPTIONS_SIDE_MAX 4096        /* pixels of a picture's width, and of its height */
 #define CAPTIONS_LINE_HEIGHT_MAX 1024 /* pixels from one line to the next */
@@ -86,9 +72,9 @@ extern "C" {
 #define CAPTIONS_SLANT_MAX 8          /* eighths of a cell's width that italic leans over a cell */
 #define CAPTIONS_OUTLINE_CAP_MAX 4    /* pixels that the widest outline may have */
 #define CAPTIONS_COLUMNS_MAX 4096     /* the largest column limit; the smallest is 1 */
-#define CAPTIONS_LETTERS_MAX 4096     /* letters of a tape; breaks and a voice's ": " count too */
+#define CAPTIONS_LETTERS_MAX 4096     /* letters of a cue; breaks and a voice's ": " count too */
 #define CAPTIONS_STRIPES_MAX 64       /* stripes of a picture */
-#define CAPTIONS_STACK_BYTES 32768    /* of call stack for a call: twice what was measured */
+#define CAPTIONS_STACK_BYTES 32768    /* of stack that a call needs: twice what was measured */
 
 /* The first byte of each of a tape's commands. */
 enum captions_command {
@@ -185,15 +171,6 @@ static inline captions_settings captions_settings_usual(uint32_t width, uint32_t
 }
 
 /*
- * The end of a stack of one tape: tape_ends points to it, and tape_count is 1. A length that 32
- * bits do not hold gives 0xFFFFFFFF, which is refused 18.
- */
-static inline uint32_t captions_one_tape(size_t tape_len)
-{
-    return tape_len > 0xFFFFFFFFu ? 0xFFFFFFFFu : (uint32_t)tape_len;
-}
-
-/*
  * Stripes of one height for a picture of this height; the last may be lower. A stripe height of 0
  * gives one stripe that ends at row 0; one that makes more than CAPTIONS_STRIPES_MAX stripes gives
  * their count, and as many ends as there is room for. Open refuses both.
@@ -215,15 +192,13 @@ static inline captions_stripes captions_stripes_of_height(uint32_t height, uint3
 }
 
 /*
- * Why a call was refused. The place of 1 to 7 is the offset of the command at fault, or of the
- * tape's end for a 3 there, from the start of the tape or of the stack's buffer; that of the others
- * is 0. In a stack the place alone does not always tell the tape, since a tape's end is the start
- * of the next: it is the first that captions_wrap refuses with 1 to 7.
+ * Why a call was refused. The place of 1 to 7 is the offset in the tape of the command at fault,
+ * or the tape's length for a 3 at the tape's end; that of 8 to 14 is 0.
  *
- * They are looked for in the order 8, 9, 18, 10, 11, 13, then the tapes in their order, each from
- * its start, in each command 1, 7, 5, 2, 4, 6, 3, and then 14, 12. The first that is found is the
- * answer. A call checks what it has: captions_wrap 8, 10, 11 and its tape, captions_draw 9 and 18
- * too, captions_open also 13, and captions_work all.
+ * They are looked for in the order 8, 9, 10, 11, 13, then the tape from its start, in each command
+ * 1, 7, 5, 2, 4, 6, 3, and then 14, 12. The first that is found is the answer. A call checks what
+ * it has: captions_wrap 8, 10, 11 and the tape, captions_draw 9 too, captions_open also 13, and
+ * captions_work all.
  */
 enum captions_refusal {
     /* The command is over 0B. Place: the command's. */
@@ -231,14 +206,14 @@ enum captions_refusal {
     /* The tape ends before the command's operands do. Place: the command's. */
     CAPTIONS_OPERANDS_MISSING = 2,
     /* A 00 in the outer list; or the tape ends in a list or a name. Place: the 00's;
-       the tape's end. */
+       the tape's length. */
     CAPTIONS_UNBALANCED = 3,
     /* The code point is a surrogate or over 10FFFF. Place: the letter's. */
     CAPTIONS_NOT_A_SCALAR = 4,
     /* A list inside sixteen others. Place: its command's. The outer list is not counted. */
     CAPTIONS_TOO_DEEP = 5,
-    /* More than 4096 letters in a tape. Place: that of the command with one too many. That is a
-       letter, a break, or the 00 after a voice's name, which adds its ": ". */
+    /* More than 4096 letters. Place: that of the command with one too many. That is a letter,
+       a break, or the 00 after a voice's name, which adds its ": ". */
     CAPTIONS_TOO_MANY_LETTERS = 6,
     /* In a voice's name, a command that is none of 00, 02, 03, 04. Place: the command's. */
     CAPTIONS_NOT_IN_A_NAME = 7,
@@ -246,7 +221,7 @@ enum captions_refusal {
     CAPTIONS_OUT_OF_RANGE = 8,
     /* The picture's buffer has under width * height * 4 bytes. */
     CAPTIONS_PICTURE_TOO_SHORT = 9,
-    /* A tape has more than 16384 bytes. No tape has been read then. */
+    /* The tape has more than 16384 bytes. */
     CAPTIONS_TAPE_TOO_LONG = 10,
     /* The workspace has under 65536 bytes. */
     CAPTIONS_WORKSPACE_TOO_SHORT = 11,
@@ -258,9 +233,7 @@ enum captions_refusal {
     CAPTIONS_STRIPES_UNFIT = 13,
     /* A counter is over the number of strokes, or not 0 past the last stripe. The counter is any of
        the record's 64, the number T, and the last stripe that of the record's count. */
-    CAPTIONS_COUNTERS_UNSOUND = 14,
-    /* No tape, more than 8, ends that fall, or a last one that is not the buffer's length. */
-    CAPTIONS_TAPES_UNFIT = 18
+    CAPTIONS_COUNTERS_UNSOUND = 14
 };
 
 /* The refusal's number, or 0 where the call was accepted. */
@@ -300,12 +273,11 @@ uint64_t captions_wrap(const uint8_t *tape, size_t tape_len,
                        uint32_t column_limit);
 
 /*
- * Draw: clears the picture, draws the cues of a stack on it, and answers T. The column limit of
- * their lines is width / 8, or 1 where that is 0. A refusal leaves the picture.
+ * Draw: clears the picture, draws a tape's cue on it, and answers T. The column limit of its lines
+ * is width / 8, or 1 where that is 0. A refusal leaves the picture.
  */
 uint64_t captions_draw(const captions_settings *settings,
-                       const uint8_t *tapes, size_t tapes_len,
-                       const uint32_t *tape_ends, size_t tape_count,
+                       const uint8_t *tape, size_t tape_len,
                        uint8_t *workspace, size_t workspace_len,
                        uint8_t *picture, size_t picture_len);
 
@@ -317,8 +289,7 @@ uint64_t captions_draw(const captions_settings *settings,
  * A refusal leaves the picture, and writes zeros to all of the record.
  */
 uint64_t captions_open(const captions_settings *settings,
-                       const uint8_t *tapes, size_t tapes_len,
-                       const uint32_t *tape_ends, size_t tape_count,
+                       const uint8_t *tape, size_t tape_len,
                        uint8_t *workspace, size_t workspace_len,
                        uint8_t *picture, size_t picture_len,
                        const captions_stripes *stripes,
@@ -329,13 +300,12 @@ uint64_t captions_open(const captions_settings *settings,
  * number, or as are left. Answers how many they were; the stripe's counter grows by that, and
  * nothing else of the record or of the picture changes; entries that are not used stay too.
  *
- * Settings and stack are those of Open, picture and record as the last call left them, in this
+ * Settings and tape are those of Open, picture and record as the last call left them, in this
  * process or in another. Once every stripe's counter is T, the picture is what Draw leaves. With a
  * budget of 0 it only checks what it is handed. A refusal leaves picture and record.
  */
 uint64_t captions_work(const captions_settings *settings,
-                       const uint8_t *tapes, size_t tapes_len,
-                       const uint32_t *tape_ends, size_t tape_count,
+                       const uint8_t *tape, size_t tape_len,
                        uint8_t *workspace, size_t workspace_len,
                        uint8_t *picture, size_t picture_len,
                        captions_record *record,

@@ -2,28 +2,23 @@
 
 use crate::changes::{Change, changed, stands};
 
-/// The loop's methods, and what makes each its counted twin: another name, and strokes and the lowest
-/// base line that go through `Strokes` of `append/compositor.rs`.
-const METHODS: [(&str, &[Change]); 2] = [
+/// The loop's methods, and what makes each its counted twin: another name, and strokes that go
+/// through `Strokes` of `append/compositor.rs`.
+const METHODS: [(&str, [Change; 2]); 2] = [
     (
         "render_into_bitmap",
-        &[
+        [
             (
                 "fn render_into_bitmap(&self, ",
                 1,
                 "fn counted_bitmap(&self, strokes: &Strokes, ",
-            ),
-            (
-                "last_baseline as i32;",
-                1,
-                "strokes.raised(last_baseline as i32, line_h);",
             ),
             ("self.draw_line(", 1, "self.counted_line(strokes, "),
         ],
     ),
     (
         "draw_line",
-        &[
+        [
             (
                 "fn draw_line(&self, ",
                 1,
@@ -38,7 +33,7 @@ const METHODS: [(&str, &[Change]); 2] = [
 pub fn methods(text: &str) -> Result<String, String> {
     let mut counted = "\nimpl Compositor {".to_string();
     for (name, changes) in METHODS {
-        counted += &changed(method(text, name)?, changes)?;
+        counted += &changed(method(text, name)?, &changes)?;
     }
     Ok(counted + "}\n")
 }

@@ -6,32 +6,31 @@ use Prim.Native.Nat.{ℕ}
 use contract.Lifetimes.{Lfts}
 use denote.Triple.Clauses.{AtExit}
 use borrow.Fn.Kinds.{Dens, ended_of}
-use Rattle.tape.specs.Lent.{handed}
 use Rattle.captions.specs.Interface.{OpenAnswered, WorkAnswered}
 use Rattle.captions.proofs.captions_open.Kinds as open-kinds
 use Rattle.captions.proofs.captions_open.Reads as open-reads
 use Rattle.captions.proofs.captions_work.Kinds as work-kinds
 use Rattle.captions.proofs.captions_work.Reads as work-reads
 
--- what is given: settings, tapes and their ends, workspace, picture, stripes and record; at exit the workspace, the picture and
+-- what is given: settings, tape, workspace, picture, stripes and record; at exit the workspace, the picture and
 -- the record
-module _ (κs : Lfts 7) (a : Dens κs open-kinds.ps) where
+module _ (κs : Lfts 6) (a : Dens κs open-kinds.ps) where
   open_asks : open-reads.Pre κs a ≡ Unit {0}
   open_asks = refl
 
-  open_tells : (r : ℕ) (x : AtExit (ended_of 7 open-kinds.ps open-kinds.r) κs)
+  open_tells : (r : ℕ) (x : AtExit (ended_of 6 open-kinds.ps open-kinds.r) κs)
       → open-reads.Post κs a r x
-      ≡ OpenAnswered a.0.now (handed a.1.0.now a.1.1.0.now) a.1.1.1.0.now x.1.1.1.0.now a.1.1.1.1.0.now x.1.1.1.1.0.now
-      a.1.1.1.1.1.0.now x.1.1.1.1.1.1.0.now r
+      ≡ OpenAnswered a.0.now a.1.0.now a.1.1.0.now x.1.1.0.now a.1.1.1.0.now x.1.1.1.0.now
+      a.1.1.1.1.0.now x.1.1.1.1.1.0.now r
   open_tells r x = refl
 
 -- the same with the record before it too, the stripe and the budget in place of the stripes
-module _ (κs : Lfts 6) (a : Dens κs work-kinds.ps) where
+module _ (κs : Lfts 5) (a : Dens κs work-kinds.ps) where
   work_asks : work-reads.Pre κs a ≡ Unit {0}
   work_asks = refl
 
-  work_tells : (r : ℕ) (x : AtExit (ended_of 6 work-kinds.ps work-kinds.r) κs)
+  work_tells : (r : ℕ) (x : AtExit (ended_of 5 work-kinds.ps work-kinds.r) κs)
       → work-reads.Post κs a r x
-      ≡ WorkAnswered a.0.now (handed a.1.0.now a.1.1.0.now) a.1.1.1.0.now x.1.1.1.0.now a.1.1.1.1.0.now x.1.1.1.1.0.now
-      a.1.1.1.1.1.0.now x.1.1.1.1.1.0.now a.1.1.1.1.1.1.0 a.1.1.1.1.1.1.1.0 r
+      ≡ WorkAnswered a.0.now a.1.0.now a.1.1.0.now x.1.1.0.now a.1.1.1.0.now x.1.1.1.0.now
+      a.1.1.1.1.0.now x.1.1.1.1.0.now a.1.1.1.1.1.0 a.1.1.1.1.1.1.0 r
   work_tells r x = refl

@@ -27,60 +27,60 @@ small_answer : (r : ℕ) → r < 2 ^ 32 → unpacked r ≡ Answer.Accepted r
 unfolding unpacked
 small_answer r l = rw (lt-ltb r (2 ^ 32) l)
 
-module _ (settings : List ℕ) (tapes : Tapes) (stripes bytes : List ℕ) where
+module _ (settings : List ℕ) (tape : Tapes) (stripes bytes : List ℕ) where
   -- the division that the numbers stand for
   abbrev d : Division
   d = division_of (stripes_of stripes)
 
   -- a history of the functions is one of the calls
-  pub carried : {entries : List Entry} {picture words : List ℕ} → HistoryInC settings tapes stripes bytes entries picture words
-      → History (settings_of settings) tapes d bytes entries picture (record_of words)
+  pub carried : {entries : List Entry} {picture words : List ℕ} → HistoryInC settings tape stripes bytes entries picture words
+      → History (settings_of settings) tape d bytes entries picture (record_of words)
   carried (after_open_in_c {ws} r o l) =
-      let back = (open_packs (settings_of settings) tapes ws bytes d o.does).back in
+      let back = (open_packs (settings_of settings) tape ws bytes d o.does).back in
       after_open r o.does (sym back ∙ ap unpacked (sym o.packs) ∙ small_answer r l)
   carried (after_work_in_c {entries} {ws} {picture = picture} {picture' = picture'} {words = words} {words' = words'} k n r before w) =
-      let back = (work_packs (settings_of settings) tapes ws picture (record_of words) k n w.does).back in
+      let back = (work_packs (settings_of settings) tape ws picture (record_of words) k n w.does).back in
       subst
-      (λ (a : Answer). History (settings_of settings) tapes d bytes (record { stripe = k; budget = n; room = length ws; answer = a } ∷ entries) picture' (record_of words'))
+      (λ (a : Answer). History (settings_of settings) tape d bytes (record { stripe = k; budget = n; room = length ws; answer = a } ∷ entries) picture' (record_of words'))
       (sym back ∙ ap unpacked (sym w.packs))
       (after_work k n (carried before) w.does)
 
   -- what a call left is what its function did, with records as numbers
   open_answered : {ws ws' picture : List ℕ} {r : JobAnswer} → length r.job.stripes.end_rows ≡ most_stripes
-      → Opened (settings_of settings) tapes ws ws' bytes picture d r
-      → OpenAnswered settings tapes ws ws' bytes picture stripes (words_of r.job) (packed r.answer)
+      → Opened (settings_of settings) tape ws ws' bytes picture d r
+      → OpenAnswered settings tape ws ws' bytes picture stripes (words_of r.job) (packed r.answer)
   open_answered {r = r} long o = record { answer = r.answer; does = rw (there_and_back r.job long) o; packs = refl }
 
   work_answered : {ws ws' picture picture' : List ℕ} {job : JobRecord} {r : JobAnswer} (k n : ℕ) → length job.stripes.end_rows ≡ most_stripes
-      → length r.job.stripes.end_rows ≡ most_stripes → Worked (settings_of settings) tapes ws ws' picture picture' job k n r
-      → WorkAnswered settings tapes ws ws' picture picture' (words_of job) (words_of r.job) k n (packed r.answer)
+      → length r.job.stripes.end_rows ≡ most_stripes → Worked (settings_of settings) tape ws ws' picture picture' job k n r
+      → WorkAnswered settings tape ws ws' picture picture' (words_of job) (words_of r.job) k n (packed r.answer)
   work_answered {job = job} {r = r} k n long long' w =
       record { answer = r.answer; does = rw (there_and_back job long, there_and_back r.job long') w; packs = refl }
 
   -- and the other way round
-  pub carried_back : {entries : List Entry} {picture : List ℕ} {job : JobRecord} → History (settings_of settings) tapes d bytes entries picture job
-      → HistoryInC settings tapes stripes bytes entries picture (words_of job)
+  pub carried_back : {entries : List Entry} {picture : List ℕ} {job : JobRecord} → History (settings_of settings) tape d bytes entries picture job
+      → HistoryInC settings tape stripes bytes entries picture (words_of job)
   carried_back (after_open {ws} {r = r} total o e) =
       let found = accepted_is o e in
-      let few : Few found.given = rw found.means at (open_bounded (settings_of settings) (length ws) (length bytes) tapes d) in
+      let few : Few found.given = rw found.means at (open_bounded (settings_of settings) (length ws) (length bytes) tape d) in
       let count = found.counts in
       let low : packed r.answer < 2 ^ 32 = rw e (omega arith) in
-      let long = end_rows_long (settings_of settings) tapes d bytes (after_open {ws = ws} {r = r} total o e) in
+      let long = end_rows_long (settings_of settings) tape d bytes (after_open {ws = ws} {r = r} total o e) in
       after_open_in_c (packed r.answer) (open_answered {r = r} long o) low
   carried_back (after_work {entries} {ws} {picture = picture} {picture' = picture'} {job = job} {r = r} k n before w) =
-      let back = (work_packs (settings_of settings) tapes ws picture job k n w).back in
-      let long = end_rows_long (settings_of settings) tapes d bytes before in
-      let long' = end_rows_long (settings_of settings) tapes d bytes (after_work {ws = ws} {picture' = picture'} {r = r} k n before w) in
+      let back = (work_packs (settings_of settings) tape ws picture job k n w).back in
+      let long = end_rows_long (settings_of settings) tape d bytes before in
+      let long' = end_rows_long (settings_of settings) tape d bytes (after_work {ws = ws} {picture' = picture'} {r = r} k n before w) in
       subst
-      (λ (a : Answer). HistoryInC settings tapes stripes bytes (record { stripe = k; budget = n; room = length ws; answer = a } ∷ entries) picture' (words_of r.job))
+      (λ (a : Answer). HistoryInC settings tape stripes bytes (record { stripe = k; budget = n; room = length ws; answer = a } ∷ entries) picture' (words_of r.job))
       back
       (after_work_in_c k n (packed r.answer) (carried_back before) (work_answered {job = job} {r = r} k n long long' w))
 
 pub demand_3_in_c : Demand3InC
-demand_3_in_c settings tapes stripes bytes entries picture words history =
-    demand_3 (settings_of settings) tapes (division_of (stripes_of stripes)) bytes entries picture (record_of words) (carried settings tapes stripes bytes history)
+demand_3_in_c settings tape stripes bytes entries picture words history =
+    demand_3 (settings_of settings) tape (division_of (stripes_of stripes)) bytes entries picture (record_of words) (carried settings tape stripes bytes history)
 
 pub possible_in_c : PossibleInC
-possible_in_c settings tapes stripes bytes ws ts e wishes =
-    let p = possible (settings_of settings) tapes (division_of (stripes_of stripes)) bytes ws ts e wishes in
-    (p.0, p.1, words_of p.2, carried_back settings tapes stripes bytes p.3, p.4)
+possible_in_c settings tape stripes bytes ws ts e wishes =
+    let p = possible (settings_of settings) tape (division_of (stripes_of stripes)) bytes ws ts e wishes in
+    (p.0, p.1, words_of p.2, carried_back settings tape stripes bytes p.3, p.4)

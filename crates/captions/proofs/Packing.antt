@@ -16,17 +16,17 @@ use Rattle.job.specs.Work.{open_call, work_call}
 use Rattle.job.specs.Worked.{Opened, Worked}
 use Rattle.job.proofs.Answers.{most_number, open_bounded, work_bounded}
 
-module _ (s : Settings) (tapes : Tapes) (ws picture : List ℕ) where
-  pub draw_packs : {ws' picture' : List ℕ} {r : Answer} → Drawn s tapes ws ws' picture picture' r → Packs r
+module _ (s : Settings) (tape : Tapes) (ws picture : List ℕ) where
+  pub draw_packs : {ws' picture' : List ℕ} {r : Answer} → Drawn s tape ws ws' picture picture' r → Packs r
   draw_packs d =
-      strokes_pack most_number (draw_call s (length ws) (length picture) tapes)
-      (cue_bounded s (length ws) (length picture) tapes 0 most_number (lit≤ tt) (lit≤ tt)) d.answers
+      strokes_pack most_number (draw_call s (length ws) (length picture) tape)
+      (cue_bounded s (length ws) (length picture) tape 0 most_number (lit≤ tt) (lit≤ tt)) d.answers
 
-  pub open_packs : (d : Division) {ws' picture' : List ℕ} {r : JobAnswer} → Opened s tapes ws ws' picture picture' d r → Packs r.answer
+  pub open_packs : (d : Division) {ws' picture' : List ℕ} {r : JobAnswer} → Opened s tape ws ws' picture picture' d r → Packs r.answer
   open_packs d o =
-      strokes_pack most_number (open_call s (length ws) (length picture) tapes d) (open_bounded s (length ws) (length picture) tapes d) o.answers
+      strokes_pack most_number (open_call s (length ws) (length picture) tape d) (open_bounded s (length ws) (length picture) tape d) o.answers
 
-  pub work_packs : (job : JobRecord) (k n : ℕ) {ws' picture' : List ℕ} {r : JobAnswer} → Worked s tapes ws ws' picture picture' job k n r → Packs r.answer
+  pub work_packs : (job : JobRecord) (k n : ℕ) {ws' picture' : List ℕ} {r : JobAnswer} → Worked s tape ws ws' picture picture' job k n r → Packs r.answer
   work_packs job k n w =
-      strokes_pack most_number (work_call s (length ws) (length picture) tapes job k n)
-      (work_bounded s (length ws) (length picture) tapes job k n) w.answers
+      strokes_pack most_number (work_call s (length ws) (length picture) tape job k n)
+      (work_bounded s (length ws) (length picture) tape job k n) w.answers

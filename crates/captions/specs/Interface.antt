@@ -45,16 +45,16 @@ WrapAnswered tape ws ws' L result = Numbered (Wrapped tape ws ws' L) result
 
 -- Draw: the picture's buffer before and after too
 abbrev pub DrawAnswered : List ℕ → Tapes → List ℕ → List ℕ → List ℕ → List ℕ → ℕ → Type 0
-DrawAnswered settings tapes ws ws' picture picture' result = Numbered (Drawn (settings_of settings) tapes ws ws' picture picture') result
+DrawAnswered settings tape ws ws' picture picture' result = Numbered (Drawn (settings_of settings) tape ws ws' picture picture') result
 
 -- Open: the stripes, and the record that it gives, as numbers too
 abbrev pub OpenAnswered : List ℕ → Tapes → List ℕ → List ℕ → List ℕ → List ℕ → List ℕ → List ℕ → ℕ → Type 0
-OpenAnswered settings tapes ws ws' picture picture' stripes words' result =
+OpenAnswered settings tape ws ws' picture picture' stripes words' result =
     Numbered
-    (λ a. Opened (settings_of settings) tapes ws ws' picture picture' (division_of (stripes_of stripes)) (record { answer = a; job = record_of words' }))
+    (λ a. Opened (settings_of settings) tape ws ws' picture picture' (division_of (stripes_of stripes)) (record { answer = a; job = record_of words' }))
     result
 
 -- Work on stripe k with budget n: the record before and after
 abbrev pub WorkAnswered : List ℕ → Tapes → List ℕ → List ℕ → List ℕ → List ℕ → List ℕ → List ℕ → ℕ → ℕ → ℕ → Type 0
-WorkAnswered settings tapes ws ws' picture picture' words words' k n result =
-    Numbered (λ a. Worked (settings_of settings) tapes ws ws' picture picture' (record_of words) k n (record { answer = a; job = record_of words' })) result
+WorkAnswered settings tape ws ws' picture picture' words words' k n result =
+    Numbered (λ a. Worked (settings_of settings) tape ws ws' picture picture' (record_of words) k n (record { answer = a; job = record_of words' })) result

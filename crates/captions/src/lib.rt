@@ -3,7 +3,6 @@
 // A call answers with one number: its answer, or a refusal, the refusal's number times 2^32 and its
 // place. No answer reaches 2^32.
 ghost use Rattle.std.specs.Prelude.{◌≡◌, length};
-ghost use Rattle.tape.specs.Lent.{handed};
 ghost use Rattle.job.specs.Stripes.{most_stripes};
 ghost use Rattle.captions.specs.Interface.{settings_of, stripes_of, record_of, WrapAnswered, DrawAnswered, OpenAnswered, WorkAnswered};
 
@@ -41,20 +40,19 @@ fn settings_of(words: [u32; 12]) -> Settings
     }
 }
 
-// The call Draw: answers how many strokes the tapes' captions have, which the picture then shows on
-// zeros. A refusal leaves the picture as it is. The tapes of a stack lie end to end, here and below.
+// The call Draw: answers how many strokes the tape's caption has, which the picture then shows on
+// zeros. A refusal leaves the picture as it is.
 #[unsafe(no_mangle)]
 pub extern "C" fn captions_draw(
     settings: &[u32; 12],
-    tapes: &[u8],
-    tape_ends: &[u32],
+    tape: &[u8],
     workspace: &mut [u8],
     picture: &mut [u8],
 ) -> u64
-    ensures { DrawAnswered settings.now (handed tapes.now tape_ends.now) workspace.old workspace.new
+    ensures { DrawAnswered settings.now tape.now workspace.old workspace.new
         picture.old picture.new result }
 {
-    compositor::render_into(settings_of(*settings), tapes, tape_ends, workspace, picture).packed()
+    compositor::render_into(settings_of(*settings), tape, workspace, picture).packed()
 }
 
 const STRIPES: usize = 64;
@@ -124,23 +122,22 @@ fn words_of(job: JobRecord) -> [u32; 129]
 }
 
 // The call Open: zeroes the picture and gives the record of a job in such stripes. Answers how many
-// strokes the tapes' captions have. A refusal leaves the picture as it is, and gives zeros.
+// strokes the tape's caption has. A refusal leaves the picture as it is, and gives zeros.
 #[unsafe(no_mangle)]
 pub extern "C" fn captions_open(
     settings: &[u32; 12],
-    tapes: &[u8],
-    tape_ends: &[u32],
+    tape: &[u8],
     workspace: &mut [u8],
     picture: &mut [u8],
     stripes: &[u32; 65],
     record: &mut [u32; 129],
 ) -> u64
-    ensures { OpenAnswered settings.now (handed tapes.now tape_ends.now) workspace.old workspace.new
+    ensures { OpenAnswered settings.now tape.now workspace.old workspace.new
         picture.old picture.new stripes.now «record».new result }
 {
     let s = settings_of(*settings);
-    let chosen = stripes_of(*stripes);
-    let opened = job::open(s, tapes, tape_ends, workspace, picture, chosen);
+    let handed = stripes_of(*stripes);
+    let opened = job::open(s, tape, workspace, picture, handed);
     let given = opened.job;
     *record = words_of(given);
     let answer = opened.answer;
@@ -152,22 +149,19 @@ pub extern "C" fn captions_open(
 #[unsafe(no_mangle)]
 pub extern "C" fn captions_work(
     settings: &[u32; 12],
-    tapes: &[u8],
-    tape_ends: &[u32],
+    tape: &[u8],
     workspace: &mut [u8],
     picture: &mut [u8],
     record: &mut [u32; 129],
     stripe: u32,
     budget: u32,
 ) -> u64
-    ensures { WorkAnswered settings.now (handed tapes.now tape_ends.now) workspace.old workspace.new
+    ensures { WorkAnswered settings.now tape.now workspace.old workspace.new
         picture.old picture.new «record».old «record».new stripe budget result }
 {
     let s = settings_of(*settings);
     let before = record_of(*record);
-    let worked = job::work(
-        s, tapes, tape_ends, workspace, picture, before, stripe, budget,
-    );
+    let worked = job::work(s, tape, workspace, picture, before, stripe, budget);
     let after = worked.job;
     *record = words_of(after);
     let answer = worked.answer;

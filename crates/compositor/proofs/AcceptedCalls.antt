@@ -8,12 +8,11 @@ use borrow.Author.Tests.{ltb-false}
 use lib.Dec.{ltb}
 use lib.ListN.{length}
 use Rattle.tape.specs.Outcome.{Outcome, accepted, refused, refuse_if, unless}
-use Rattle.tape.specs.Tape.{least_room}
-use Rattle.tape.specs.Stack.{ends_unfit, some_too_long}
+use Rattle.tape.specs.Tape.{most_bytes, least_room}
 use Rattle.compositor.specs.declared.Settings.{Settings}
 use Rattle.compositor.specs.Settings.{out_of_range, picture_bytes}
 use Rattle.compositor.specs.Order.{Stroke}
-use Rattle.compositor.specs.Draw.{Tapes, stack_strokes, cue_call}
+use Rattle.compositor.specs.Draw.{Tapes, tape_strokes, cue_call}
 use Rattle.compositor.specs.Ready.{InRange}
 use Rattle.compositor.proofs.Ranges.{in_range}
 
@@ -31,26 +30,24 @@ unhindered zero e = (refl, e)
 unhindered (suc k) e = absurd (never e)
 
 -- an accepted call passed every test
-module _ (s : Settings) (room size : ℕ) (tapes : Tapes) (extra : ℕ) {ts : List Stroke} (e : cue_call s room size tapes extra ≡ accepted ts) where
+module _ (s : Settings) (room size : ℕ) (tape : Tapes) (extra : ℕ) {ts : List Stroke} (e : cue_call s room size tape extra ≡ accepted ts) where
   record Passed : Type 0 where
     range : out_of_range s ≡ false
     fits : ltb size (picture_bytes s) ≡ false
-    fit : ends_unfit (length tapes.tape_bytes) tapes.tape_ends ≡ false
-    short : some_too_long 0 tapes.tape_ends ≡ false
+    short : ltb most_bytes (length tape) ≡ false
     enough : ltb room least_room ≡ false
     none : extra ≡ 0
-    strokes : stack_strokes s tapes ≡ accepted ts
+    strokes : tape_strokes s tape ≡ accepted ts
 
   tests : Passed
   unfolding cue_call
   tests =
       let range = passed (out_of_range s) 8 0 e in
       let fits = passed (ltb size (picture_bytes s)) 9 0 range.1 in
-      let fit = passed (ends_unfit (length tapes.tape_bytes) tapes.tape_ends) 18 0 fits.1 in
-      let short = passed (some_too_long 0 tapes.tape_ends) 10 0 fit.1 in
+      let short = passed (ltb most_bytes (length tape)) 10 0 fits.1 in
       let enough = passed (ltb room least_room) 11 0 short.1 in
       let extra = unhindered extra enough.1 in
-      record { range = range.0; fits = fits.0; fit = fit.0; short = short.0; enough = enough.0; none = extra.0; strokes = extra.1 }
+      record { range = range.0; fits = fits.0; short = short.0; enough = enough.0; none = extra.0; strokes = extra.1 }
 
   pub cue_range : InRange s
   cue_range = in_range s tests.range
@@ -61,10 +58,10 @@ module _ (s : Settings) (room size : ℕ) (tapes : Tapes) (extra : ℕ) {ts : Li
   pub cue_extra : extra ≡ 0
   cue_extra = tests.none
 
-  pub cue_strokes : stack_strokes s tapes ≡ accepted ts
+  pub cue_strokes : tape_strokes s tape ≡ accepted ts
   cue_strokes = tests.strokes
 
   -- with another workspace it is accepted too, or refused 11
-  pub cue_again : (other : ℕ) → cue_call s other size tapes extra ≡ refuse_if (ltb other least_room) 11 0 (accepted ts)
+  pub cue_again : (other : ℕ) → cue_call s other size tape extra ≡ refuse_if (ltb other least_room) 11 0 (accepted ts)
   unfolding cue_call
-  cue_again other = rw (tests.range, tests.fits, tests.fit, tests.short, tests.none, tests.strokes)
+  cue_again other = rw (tests.range, tests.fits, tests.short, tests.none, tests.strokes)

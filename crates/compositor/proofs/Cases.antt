@@ -1,4 +1,4 @@
--- DOCUMENT 01'S CASES a TO l, cases of letters without ink, of other house settings, of stacks, and some more: tapes and settings,
+-- DOCUMENT 01'S CASES a TO l, cases of letters without ink, of other house settings, and some more: tapes and settings,
 -- and what Wrap and Draw make of them, by computation.
 use mathlib.Core.Path.{◌≡◌, refl}
 use mathlib.Core.List.{List, [], ◌∷◌, ◌++◌, map, flatten}
@@ -15,7 +15,6 @@ use Rattle.tape.specs.Style.{same_style}
 use Rattle.tape.specs.Command.{code_point, is_letter, is_opener, is_scalar, added, fault_of, command_of}
 use Rattle.tape.specs.Runs.{merge_into, letters_of}
 use Rattle.tape.specs.Tape.{least_room, read, tape_runs, tape_letters, read_call}
-use Rattle.tape.specs.Stack.{tapes_from, reaches_to, ends_unfit, some_too_long, tapes_letters}
 use Rattle.tape.specs.Segments.{letter_bytes, letters_bytes}
 use Rattle.wrap.specs.Lines.{Line, up_from, without_last, visible_cols, logical_lines, tokenise, is_space_token, chunks, put_chunks, add_or_break, put_token, put_tokens, fill, wrap_runs}
 use Rattle.wrap.specs.Wrap.{wrap_call}
@@ -24,12 +23,11 @@ use Rattle.compositor.specs.declared.Settings.{Settings}
 use Rattle.compositor.specs.Settings.{out_of_range}
 use Rattle.compositor.specs.Layout.{last_base_line, base_line, line_start}
 use Rattle.compositor.specs.Outline.{displacement_row, displacement_rows, displacements}
-use Rattle.compositor.specs.Order.{Stroke, glyph_strokes, line_strokes, lines_strokes, drawing, stack_drawing}
+use Rattle.compositor.specs.Order.{Stroke, glyph_strokes, line_strokes, lines_strokes, drawing}
 use Rattle.compositor.specs.Picture.{strokes_on, row_after}
-use Rattle.compositor.specs.Draw.{Tapes, stack_strokes, cue_call, draw_call}
+use Rattle.compositor.specs.Draw.{tape_strokes, cue_call, draw_call}
 use Rattle.compositor.specs.Plain.{plain_start}
 use Rattle.compositor.specs.House.{with_house}
-use Rattle.compositor.specs.Speakers.{ends_of, stack_of}
 
 -- white letters with a black outline, in lines as high as a cell, drawn in a glyph mode; side margin, slant and outline
 -- cap are the old numbers
@@ -58,26 +56,22 @@ settings = settings_in 0
 abbrev columns : ℕ → Settings
 columns L = settings (8 * L) 0 0 0 0
 
--- a stack of one tape
-abbrev pub only : List ℕ → Tapes
-only tape = stack_of (tape ∷ [])
-
 -- at L columns the tape makes these lines, in a call of Wrap, and a call of Draw has so many strokes, one for each letter
 -- with ink
 abbrev Makes : ℕ → List ℕ → List Line → ℕ → Type 0
 Makes L tape lines inked =
-    Wrap.Makes L tape lines × (on_accepted length (draw_call (columns L) least_room 0 (only tape)) ≡ accepted inked)
+    Wrap.Makes L tape lines × (on_accepted length (draw_call (columns L) least_room 0 tape) ≡ accepted inked)
 
 abbrev Refuses : Settings → ℕ → List ℕ → ℕ → ℕ → Type 0
-Refuses s size tape number place = draw_call s least_room size (only tape) ≡ refused number place
+Refuses s size tape number place = draw_call s least_room size tape ≡ refused number place
 
 -- what f tells of each stroke
 abbrev Strokes : {A : Type 0} → (Stroke → A) → Settings → ℕ → List ℕ → List A → Type 0
-Strokes f s size tape told = on_accepted (map f) (draw_call s least_room size (only tape)) ≡ accepted told
+Strokes f s size tape told = on_accepted (map f) (draw_call s least_room size tape) ≡ accepted told
 
 -- T
 abbrev Total : ℕ → List ℕ → ℕ → Type 0
-Total outline tape n = on_accepted length (draw_call (settings 32 0 0 outline 0) least_room 0 (only tape)) ≡ accepted n
+Total outline tape n = on_accepted length (draw_call (settings 32 0 0 outline 0) least_room 0 tape) ≡ accepted n
 
 abbrev pub AB : List ℕ
 AB = letters_bytes (0x41 ∷ 0x42 ∷ [])
@@ -130,7 +124,7 @@ italic code = 0x07 ∷ letter_bytes code ++ (0x00 ∷ [])
 
 -- T of AB at an outline and a cap
 abbrev Capped : ℕ → ℕ → ℕ → Type 0
-Capped outline cap n = on_accepted length (draw_call (with_house 8 2 cap (settings 32 0 0 outline 0)) least_room 0 (only AB)) ≡ accepted n
+Capped outline cap n = on_accepted length (draw_call (with_house 8 2 cap (settings 32 0 0 outline 0)) least_room 0 AB) ≡ accepted n
 
 -- side margins, slants and outline caps
 pub record HouseCases : Type 0 where
@@ -153,7 +147,7 @@ pub record HouseCases : Type 0 where
   -- the box's row 13 is 7E hexadecimal; below the base line it leans to the left by a half column, rounded to a whole one
   pub below :
       on_accepted (λ ts. row_after (with_house 0 8 2 (settings 8 16 0 0 1)) ts 1 13)
-      (draw_call (with_house 0 8 2 (settings 8 16 0 0 1)) least_room 512 (only (0x07 ∷ 0x03 ∷ 0x01 ∷ 0x00 ∷ 0x00 ∷ [])))
+      (draw_call (with_house 0 8 2 (settings 8 16 0 0 1)) least_room 512 (0x07 ∷ 0x03 ∷ 0x01 ∷ 0x00 ∷ 0x00 ∷ []))
       ≡ accepted (replicate 24 255 ++ replicate 8 0)
   -- an outline of 9 is the cap's, and one below the cap is its own
   pub caps : Capped 9 0 2 × Capped 9 1 18 × Capped 9 3 50 × Capped 9 4 66 × Capped 4 4 66 × Capped 3 4 50
@@ -162,39 +156,6 @@ pub record HouseCases : Type 0 where
   pub slant_range : Refuses (with_house 8 9 2 (settings 1 1 0 0 0)) 0 (0x0c ∷ []) 8 0
   pub cap_range : Refuses (with_house 8 2 5 (settings 1 1 0 0 0)) 0 (0x0c ∷ []) 8 0
   pub most : Refuses (with_house 255 8 4 (settings 1 1 0 0 0)) 4 (0x0c ∷ []) 1 0
-
--- the picture's row of each stroke's base line, on a picture of one column, of so many rows, with such a bottom margin
-abbrev Bases : ℕ → ℕ → List (List ℕ) → List ℕ → Type 0
-Bases height margin many told =
-    on_accepted (map (λ t. t.base)) (draw_call (settings 8 height margin 0 1) least_room (32 * height) (stack_of many)) ≡ accepted told
-
--- bytes and ends, on a picture of one pixel, with a buffer of `size` bytes for it
-abbrev RefusesEnds : ℕ → List ℕ → List ℕ → ℕ → ℕ → Type 0
-RefusesEnds size bytes es number place =
-    draw_call (settings 1 1 0 0 0) least_room size (record { tape_bytes = bytes; tape_ends = es }) ≡ refused number place
-
-abbrev A : List ℕ
-A = letter_bytes 0x41
-
--- stacks of tapes
-pub record StackCases : Type 0 where
-  -- a later tape stands above the earlier ones, and is drawn after them; of each the lines go from the top
-  pub two : Bases 60 10 (A ∷ A ∷ []) ((origin + 46) ∷ (origin + 30) ∷ [])
-  pub three : Bases 90 10 (A ∷ AB ∷ A ∷ []) ((origin + 76) ∷ (origin + 44) ∷ (origin + 60) ∷ (origin + 28) ∷ [])
-  -- a letterless line on top counts; a tape without lines takes none, wherever it stands
-  pub letterless : Bases 60 10 ((0x05 ∷ A) ∷ A ∷ []) ((origin + 46) ∷ (origin + 14) ∷ [])
-  pub lineless : Bases 60 10 ((0x02 ∷ 0x20 ∷ []) ∷ A ∷ [] ∷ (0x02 ∷ 0x01 ∷ []) ∷ A ∷ []) ((origin + 46) ∷ (origin + 30) ∷ [])
-  -- the first base line stops at row 0, and later tapes go on upwards from there
-  pub above : Bases 4 4 (A ∷ A ∷ []) (origin ∷ (origin - 16) ∷ [])
-  -- T is the sum
-  pub sum : on_accepted length (draw_call (settings 32 0 0 1 0) least_room 0 (stack_of (AB ∷ A ∷ []))) ≡ accepted 27
-  -- one tape that is empty
-  pub empty : on_accepted length (draw_call (settings 32 0 0 1 0) least_room 0 (record { tape_bytes = []; tape_ends = 0 ∷ [] })) ≡ accepted 0
-  -- a fault in the second tape
-  pub second : RefusesEnds 4 (0x01 ∷ 0x06 ∷ []) (1 ∷ 2 ∷ []) 3 2
-  -- 9 before it, and it before 10
-  pub picture_first : RefusesEnds 3 [] [] 9 0
-  pub before_10 : RefusesEnds 4 [] (16385 ∷ []) 18 0
 
 -- some more
 pub record Cases : Type 0 where
@@ -236,11 +197,11 @@ pub record Cases : Type 0 where
   pub long_enough : Refuses (settings 2 3 0 0 0) 24 (0x0c ∷ []) 1 0
   -- the A of a picture of one cell: its row 1 is 18 hexadecimal
   pub row :
-      on_accepted (λ ts. row_after (settings 8 16 0 0 0) ts 1 1) (draw_call (settings 8 16 0 0 0) least_room 512 (only (0x02 ∷ 0x41 ∷ [])))
+      on_accepted (λ ts. row_after (settings 8 16 0 0 0) ts 1 1) (draw_call (settings 8 16 0 0 0) least_room 512 (0x02 ∷ 0x41 ∷ []))
       ≡ accepted (replicate 12 0 ++ (replicate 8 255 ++ replicate 12 0))
 
 pub document_01 : Document01
-unfolding has_ink wrap_call read_call cue_call stack_strokes stack_of ends_of tapes_from ends_unfit reaches_to some_too_long tapes_letters out_of_range stack_drawing drawing lines_strokes line_strokes glyph_strokes displacements displacement_rows displacement_row line_start base_line row_after strokes_on stroke_row paint_columns paint_column blend_pixel blend_over blend_byte blend_alpha tabulate regular_table wrap_runs visible_cols logical_lines tokenise is_space_token chunks put_chunks add_or_break put_token put_tokens fill without_last up_from flatten tape_letters tape_runs read fault_of command_of code_point is_letter is_opener is_scalar added merge_into letters_of same_style letter_bytes
+unfolding has_ink wrap_call read_call cue_call tape_strokes out_of_range drawing lines_strokes line_strokes glyph_strokes displacements displacement_rows displacement_row line_start base_line row_after strokes_on stroke_row paint_columns paint_column blend_pixel blend_over blend_byte blend_alpha tabulate regular_table wrap_runs visible_cols logical_lines tokenise is_space_token chunks put_chunks add_or_break put_token put_tokens fill without_last up_from flatten tape_letters tape_runs read fault_of command_of code_point is_letter is_opener is_scalar added merge_into letters_of same_style letter_bytes
 document_01 =
     record {
       a = (refl, refl);
@@ -264,7 +225,7 @@ document_01 =
     }
 
 pub bare_cases : BareCases
-unfolding has_ink bold_table wrap_call read_call cue_call stack_strokes stack_of ends_of tapes_from ends_unfit reaches_to some_too_long tapes_letters out_of_range stack_drawing drawing lines_strokes line_strokes glyph_strokes displacements displacement_rows displacement_row line_start base_line row_after strokes_on stroke_row paint_columns paint_column blend_pixel blend_over blend_byte blend_alpha tabulate regular_table wrap_runs visible_cols logical_lines tokenise is_space_token chunks put_chunks add_or_break put_token put_tokens fill without_last up_from flatten tape_letters tape_runs read fault_of command_of code_point is_letter is_opener is_scalar added merge_into letters_of same_style letter_bytes
+unfolding has_ink bold_table wrap_call read_call cue_call tape_strokes out_of_range drawing lines_strokes line_strokes glyph_strokes displacements displacement_rows displacement_row line_start base_line row_after strokes_on stroke_row paint_columns paint_column blend_pixel blend_over blend_byte blend_alpha tabulate regular_table wrap_runs visible_cols logical_lines tokenise is_space_token chunks put_chunks add_or_break put_token put_tokens fill without_last up_from flatten tape_letters tape_runs read fault_of command_of code_point is_letter is_opener is_scalar added merge_into letters_of same_style letter_bytes
 bare_cases =
     record {
       control = (refl, refl);
@@ -278,7 +239,7 @@ bare_cases =
     }
 
 pub house_cases : HouseCases
-unfolding has_ink bold_table cue_call stack_strokes stack_of ends_of tapes_from ends_unfit reaches_to some_too_long tapes_letters out_of_range stack_drawing drawing lines_strokes line_strokes glyph_strokes displacements displacement_rows displacement_row line_start base_line row_after strokes_on stroke_row paint_columns paint_column blend_pixel blend_over blend_byte blend_alpha tabulate regular_table wrap_runs visible_cols logical_lines tokenise is_space_token chunks put_chunks add_or_break put_token put_tokens fill without_last up_from flatten tape_letters tape_runs read fault_of command_of code_point is_letter is_opener is_scalar added merge_into letters_of same_style letter_bytes
+unfolding has_ink bold_table cue_call tape_strokes out_of_range drawing lines_strokes line_strokes glyph_strokes displacements displacement_rows displacement_row line_start base_line row_after strokes_on stroke_row paint_columns paint_column blend_pixel blend_over blend_byte blend_alpha tabulate regular_table wrap_runs visible_cols logical_lines tokenise is_space_token chunks put_chunks add_or_break put_token put_tokens fill without_last up_from flatten tape_letters tape_runs read fault_of command_of code_point is_letter is_opener is_scalar added merge_into letters_of same_style letter_bytes
 house_cases =
     record {
       margins = (refl, refl, refl, refl, refl);
@@ -294,24 +255,8 @@ house_cases =
       most = refl;
     }
 
-pub stack_cases : StackCases
-unfolding has_ink bold_table cue_call stack_strokes stack_of ends_of tapes_from ends_unfit reaches_to some_too_long tapes_letters out_of_range stack_drawing drawing lines_strokes line_strokes glyph_strokes displacements displacement_rows displacement_row line_start base_line row_after strokes_on stroke_row paint_columns paint_column blend_pixel blend_over blend_byte blend_alpha tabulate regular_table wrap_runs visible_cols logical_lines tokenise is_space_token chunks put_chunks add_or_break put_token put_tokens fill without_last up_from flatten tape_letters tape_runs read fault_of command_of code_point is_letter is_opener is_scalar added merge_into letters_of same_style letter_bytes
-stack_cases =
-    record {
-      two = refl;
-      three = refl;
-      letterless = refl;
-      lineless = refl;
-      above = refl;
-      sum = refl;
-      empty = refl;
-      second = refl;
-      picture_first = refl;
-      before_10 = refl;
-    }
-
 pub cases : Cases
-unfolding has_ink replaced bold_table cue_call stack_strokes stack_of ends_of tapes_from ends_unfit reaches_to some_too_long tapes_letters out_of_range stack_drawing drawing lines_strokes line_strokes glyph_strokes displacements displacement_rows displacement_row line_start base_line row_after strokes_on stroke_row paint_columns paint_column blend_pixel blend_over blend_byte blend_alpha tabulate regular_table wrap_runs visible_cols logical_lines tokenise is_space_token chunks put_chunks add_or_break put_token put_tokens fill without_last up_from flatten tape_letters tape_runs read fault_of command_of code_point is_letter is_opener is_scalar added merge_into letters_of same_style letter_bytes
+unfolding has_ink replaced bold_table cue_call tape_strokes out_of_range drawing lines_strokes line_strokes glyph_strokes displacements displacement_rows displacement_row line_start base_line row_after strokes_on stroke_row paint_columns paint_column blend_pixel blend_over blend_byte blend_alpha tabulate regular_table wrap_runs visible_cols logical_lines tokenise is_space_token chunks put_chunks add_or_break put_token put_tokens fill without_last up_from flatten tape_letters tape_runs read fault_of command_of code_point is_letter is_opener is_scalar added merge_into letters_of same_style letter_bytes
 cases =
     record {
       order = refl;

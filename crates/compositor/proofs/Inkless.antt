@@ -13,12 +13,12 @@ use Rattle.font.specs.Paint.{each_row}
 use Rattle.font.proofs.EveryEntry.{All, all_append}
 use Rattle.font.proofs.Ink.{ink_rule, bold_ink, no_ink_lem}
 use Rattle.tape.specs.Runs.{Letter}
-use Rattle.wrap.specs.Lines.{Line, letter_of, visible_cols}
+use Rattle.wrap.specs.Lines.{Line, letter_of, visible_cols, wrap_runs}
 use Rattle.compositor.specs.declared.Settings.{Settings}
 use Rattle.compositor.specs.Settings.{row_bytes}
-use Rattle.compositor.specs.Layout.{base_line, line_width, line_start}
+use Rattle.compositor.specs.Layout.{column_limit, base_line, line_width, line_start}
 use Rattle.compositor.specs.Outline.{outline_of, displacements}
-use Rattle.compositor.specs.Order.{Stroke, stroke, outline_strokes, glyph_strokes, color_of, letter_rows, letter_slant, any_letter_strokes, line_strokes, lines_strokes, drawn_lines, drawing}
+use Rattle.compositor.specs.Order.{Stroke, stroke, outline_strokes, glyph_strokes, color_of, letter_rows, letter_slant, any_letter_strokes, line_strokes, lines_strokes, drawing}
 use Rattle.compositor.specs.Picture.{stroke_on, strokes_on, row_after}
 use Rattle.compositor.specs.Inkless.{with_ink, line_of_all, lines_of_all, drawing_of_all, InkAlone, InklessLeftOut}
 use Rattle.compositor.proofs.Total.{total}
@@ -68,18 +68,18 @@ module _ (s : Settings) where
       ap₂ (λ (a b : List Stroke). a ++ b) (sym (glyph_ink (letter_rows s l) (row_offsets (letter_slant s l)) s.outline_color (color_of l.style) (outline_of s) x base)) (line_ink (x + cell_w) base ls)
       ∙ sym (ink_append (any_letter_strokes s l x base) (line_of_all s (x + cell_w) base ls))
 
-  lines_ink : (below : ℕ) (ls : List Letter) (lines : List Line) → lines_strokes s below ls lines ≡ with_ink (lines_of_all s below ls lines)
+  lines_ink : (ls : List Letter) (lines : List Line) → lines_strokes s ls lines ≡ with_ink (lines_of_all s ls lines)
   unfolding lines_strokes lines_of_all with_ink
-  lines_ink below ls [] = refl
-  lines_ink below ls (line ∷ lower) =
+  lines_ink ls [] = refl
+  lines_ink ls (line ∷ lower) =
       let x = line_start s (line_width (visible_cols ls line)) in
-      let base = base_line s (below + length lower) in
-      ap₂ (λ (a b : List Stroke). a ++ b) (line_ink x base (map (letter_of ls) line)) (lines_ink below ls lower)
-      ∙ sym (ink_append (line_of_all s x base (map (letter_of ls) line)) (lines_of_all s below ls lower))
+      let base = base_line s (length lower) in
+      ap₂ (λ (a b : List Stroke). a ++ b) (line_ink x base (map (letter_of ls) line)) (lines_ink ls lower)
+      ∙ sym (ink_append (line_of_all s x base (map (letter_of ls) line)) (lines_of_all s ls lower))
 
-  left_out_lem : (below : ℕ) (ls : List Letter) → drawing s below ls ≡ with_ink (drawing_of_all s below ls)
+  left_out_lem : (ls : List Letter) → drawing s ls ≡ with_ink (drawing_of_all s ls)
   unfolding drawing drawing_of_all
-  left_out_lem below ls = lines_ink below ls (drawn_lines s ls)
+  left_out_lem ls = lines_ink ls (wrap_runs ls (column_limit s))
 
 -- ---- on a row, and on all rows
 
@@ -99,20 +99,20 @@ whole_row_lem : (s : Settings) (ts : List Stroke) (y : ℕ) → row_after s ts (
 unfolding row_after
 whole_row_lem s ts y = ap (λ (us : List Stroke). strokes_on us y (replicate (row_bytes s) 0)) (take_all (length ts) ts (le_refl (length ts)))
 
-ink_alone : (s : Settings) (below : ℕ) (ls : List Letter) → InkAlone s below ls
-ink_alone s below ls =
+ink_alone : (s : Settings) (ls : List Letter) → InkAlone s ls
+ink_alone s ls =
     record {
-      left_out = left_out_lem s below ls;
-      total = total s below ls;
+      left_out = left_out_lem s ls;
+      total = total s ls;
       whole_row = row;
       whole_picture = λ bytes i. each_row (λ y r. picture_row y i) (row_bytes s) s.height 0 bytes;
     }
   where
-    row : (y : ℕ) (row : List ℕ) → strokes_on (drawing s below ls) y row ≡ strokes_on (drawing_of_all s below ls) y row
-    row y r = ap (λ (ts : List Stroke). strokes_on ts y r) (left_out_lem s below ls) ∙ strokes_ink (drawing_of_all s below ls) y r
+    row : (y : ℕ) (row : List ℕ) → strokes_on (drawing s ls) y row ≡ strokes_on (drawing_of_all s ls) y row
+    row y r = ap (λ (ts : List Stroke). strokes_on ts y r) (left_out_lem s ls) ∙ strokes_ink (drawing_of_all s ls) y r
 
-    picture_row : (y : ℕ) → row_after s (drawing s below ls) (length (drawing s below ls)) y ≡ row_after s (drawing_of_all s below ls) (length (drawing_of_all s below ls)) y
-    picture_row y = whole_row_lem s (drawing s below ls) y ∙ row y (replicate (row_bytes s) 0) ∙ sym (whole_row_lem s (drawing_of_all s below ls) y)
+    picture_row : (y : ℕ) → row_after s (drawing s ls) (length (drawing s ls)) y ≡ row_after s (drawing_of_all s ls) (length (drawing_of_all s ls)) y
+    picture_row y = whole_row_lem s (drawing s ls) y ∙ row y (replicate (row_bytes s) 0) ∙ sym (whole_row_lem s (drawing_of_all s ls) y)
 
 pub inkless_left_out : InklessLeftOut
 inkless_left_out =

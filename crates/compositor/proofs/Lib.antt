@@ -8,8 +8,6 @@ pub mod ReadBack  -- letters and lines read back from the workspace, one after t
 pub mod WorkspaceHolds  -- lines read back from the workspace are those that the letters make
 pub mod Total  -- the law: T is the letters with ink times (1 + 8o)
 pub mod LinesOff  -- lines whose strokes all miss the lent rows
-pub mod TapeDrawn  -- a tape of a stack, passed by or drawn; and the stack, tape after tape
-pub mod StackCounted  -- the tapes of a stack, read one after the other
 pub mod ClearedPicture  -- strokes on a picture that was cleared
 pub mod WrappedLines  -- letters that were wrapped: their lines can be read, and drawn they are the drawing
 pub mod Checks  -- what is checked before a tape is read, and how a call goes on
@@ -19,5 +17,4 @@ pub mod Plain  -- document 01's signed formulas for lines, and sums of signed nu
 pub mod PlainStrokes  -- strokes, offsets and displacements in signed numbers
 pub mod Replaced  -- the law: drawing in glyph mode 1 is drawing the replaced letters in mode 0
 pub mod Inkless  -- the law: strokes without ink may be left out of a picture drawn whole
-pub mod Speakers  -- the law: a stack of one tape, tapes without lines, and a stack split at any tape
 pub mod House  -- the law: what side margin, slant and outline cap change and what they leave

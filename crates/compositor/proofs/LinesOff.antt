@@ -2,11 +2,11 @@
 -- of lines around theirs.
 use mathlib.Core.Path.{◌≡◌, refl, sym, subst}
 use mathlib.Core.Bool.{Bool, true, false, cond, ◌||◌, true≢false}
-use mathlib.Core.List.{List, [], ◌∷◌, map, map-append}
+use mathlib.Core.List.{List, [], ◌∷◌, map-append}
 use Prim.Native.Nat.{ℕ, zero, suc, ◌+◌, ◌-◌, ◌*◌, ◌≤◌, ◌<◌}
 use native.Mathlib.Nat.{mul-le-mul_right}
 use native.Mathlib.Omega.{arith}
-use borrow.Author.Tests.{le-leb, leb-true, eqb-true}
+use borrow.Author.Tests.{leb-true}
 use lib.Dec.{eqb, leb}
 use lib.ListN.{length, take}
 use Rattle.font.specs.Font.{cell_w}
@@ -14,7 +14,7 @@ use Rattle.font.specs.Ink.{has_ink}
 use Rattle.font.specs.Paint.{origin}
 use Rattle.font.proofs.Rows.{rows_kept, stroke_above, stroke_below}
 use Rattle.tape.specs.Runs.{Letter}
-use Rattle.wrap.specs.Lines.{Line, letter_of, visible_cols}
+use Rattle.wrap.specs.Laid.{letters_on, columns_on}
 use Rattle.compositor.specs.declared.Settings.{Settings}
 use Rattle.font.specs.declared.paint.Rows.{Rows}
 use Rattle.font.proofs.EveryEntry.{All, all_weaker, all_append, all_if, all_take, all_drop}
@@ -22,12 +22,10 @@ use Rattle.compositor.specs.declared.strokes.Window.{Window}
 use Rattle.compositor.specs.Settings.{most_outline_cap}
 use Rattle.compositor.specs.Layout.{line_height, base_line, line_width, line_start}
 use Rattle.compositor.specs.Outline.{at_distance, outline_of, displacement_row, displacement_rows, displacements}
-use Rattle.compositor.specs.Order.{Stroke, stroke, outline_strokes, glyph_strokes, letter_rows, any_letter_strokes, letter_strokes, line_strokes, lines_strokes, drawn_lines, drawing}
+use Rattle.compositor.specs.Order.{Stroke, stroke, outline_strokes, glyph_strokes, letter_rows, any_letter_strokes, letter_strokes, line_strokes}
 use Rattle.compositor.specs.Picture.{stroke_on, strokes_on}
-use Rattle.compositor.specs.Painting.{cut, after, misses, off_rows, passed, Painted}
-use Rattle.compositor.specs.Ready.{InRange}
-use Rattle.compositor.proofs.Ranges.{outline_small}
-use Rattle.compositor.proofs.Painting.{missed}
+use Rattle.compositor.specs.Read.{letters_at, strokes_at}
+use Rattle.compositor.specs.Painting.{cut, after, off_rows, Painted}
 
 -- ---- strokes whose base lines are at most o rows above position `high`, and below position `low`
 
@@ -91,18 +89,17 @@ module _ (s : Settings) where
   unfolding base_line
   base_higher a b h = let rise = mul-le-mul_right {m = a} {n = b} (line_height s) h in omega arith
 
-  -- those of a caption's lines, which are at most m, with so many of others below them
-  lines_around : (m below : ℕ) (ls : List Letter) (lines : List Line) → length lines ≤ m
-      → Around (base_line s (below + (m - 1))) (base_line s below) (outline_of s) (lines_strokes s below ls lines)
-  unfolding lines_strokes
-  lines_around m below ls [] h = tt
-  lines_around m below ls (line ∷ lower) h =
-      let x = line_start s (line_width (visible_cols ls line)) in
-      let y = base_line s (below + length lower) in
-      all_append (Within _ _ (outline_of s)) (line_strokes s x y (map (letter_of ls) line)) (lines_strokes s below ls lower)
-      (around_wider _ _ (outline_of s) y (base_higher (below + length lower) (below + (m - 1)) (omega arith))
-      (base_higher below (below + length lower) (omega arith)) (line_strokes s x y (map (letter_of ls) line)) (line_around x y (map (letter_of ls) line)))
-      (lines_around m below ls lower (omega arith))
+  -- those of n lines of m
+  pub lines_around : (m n k i : ℕ) (ws : List ℕ) → n ≤ m → Around (base_line s (m - 1)) (base_line s 0) (outline_of s) (strokes_at s ws k i n)
+  unfolding strokes_at
+  lines_around m zero k i ws h = tt
+  lines_around m (suc n) k i ws h =
+      let line : List Stroke =
+      line_strokes s (line_start s (line_width (columns_on ws i))) (base_line s n) (letters_at ws k (letters_on ws i)) in
+      all_append (Within _ _ (outline_of s)) line (strokes_at s ws (k + letters_on ws i) (suc i) n)
+      (around_wider _ _ (outline_of s) (base_line s n) (base_higher n (m - 1) (omega arith)) (base_higher 0 n (omega arith)) line
+      (line_around (line_start s (line_width (columns_on ws i))) (base_line s n) (letters_at ws k (letters_on ws i))))
+      (lines_around m n (k + letters_on ws i) (suc i) ws (omega arith))
 
 -- ---- on lent rows
 
@@ -136,29 +133,3 @@ module _ (rows : Rows) (high low o : ℕ) (far : 32 ≤ high) (thin : o ≤ most
             sym (rows_kept (strokes_on (cut w ts)) (4 * rows.width) rows.count rows.first part (λ j row h. all_spared (cut w ts) j row h some));
         counts = rw e;
       }
-
--- ---- a caption that is passed by
-
--- a caption of so many lines and strokes: none of its strokes has to be drawn
-pub passed_by : (s : Settings) (ls : List Letter) (rows : Rows) (below : ℕ) {lines strokes : ℕ} (w : Window) (part : List ℕ) → InRange s
-    → 32 ≤ base_line s (below + (lines - 1)) → lines ≡ length (drawn_lines s ls) → strokes ≡ length (drawing s below ls)
-    → passed rows s lines strokes below w ≡ true → Painted rows (drawing s below ls) w part part (after w strokes)
-unfolding passed drawing lines_strokes
-passed_by s ls rows below {lines} {strokes} w part range far count total e =
-    by (eqb lines 0) (misses w strokes) (off_rows rows (base_line s (below + (lines - 1))) (base_line s below) (outline_of s)) refl refl refl e
-  where
-    bare : (r : List Line) → length r ≡ 0 → strokes ≡ length (lines_strokes s below ls r) → strokes ≡ 0
-    bare [] z n = n
-    bare (line ∷ r) z n = absurd (omega arith)
-
-    by : (a b c : Bool) → eqb lines 0 ≡ a → misses w strokes ≡ b
-        → off_rows rows (base_line s (below + (lines - 1))) (base_line s below) (outline_of s) ≡ c → (a || (b || c)) ≡ true
-        → Painted rows (drawing s below ls) w part part (after w strokes)
-    by true b c p q r g =
-        let none = eqb-true lines 0 p in
-        let empty = bare (drawn_lines s ls) (omega arith) total in
-        missed rows _ w part total (rw (empty, le-leb 0 w.from (omega arith)))
-    by false true c p q r g = missed rows _ w part total q
-    by false false true p q r g =
-        missing rows _ _ (outline_of s) far (outline_small s range) r _ w part total (lines_around s lines below ls (drawn_lines s ls) (omega arith))
-    by false false false p q r g = absurd (true≢false (sym g))

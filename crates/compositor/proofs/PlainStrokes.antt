@@ -20,20 +20,18 @@ use Rattle.font.proofs.Rows.{stroke_on_lem, stroke_above, stroke_below}
 use Rattle.font.proofs.EveryEntry.{All, all_append, all_if, each}
 use Rattle.tape.specs.Command.{most_letters}
 use Rattle.tape.specs.Runs.{Letter}
-use Rattle.tape.specs.Stack.{most_tapes}
-use Rattle.tape.proofs.StackLetters.{EachFew, FewOf}
 use Rattle.wrap.specs.Lines.{Line, letter_of, visible_cols, wrap_runs}
 use Rattle.wrap.proofs.Narrow.{narrow}
-use Rattle.wrap.proofs.FewLines.{few_lines_lem}
+use Rattle.wrap.proofs.FewLines.{few_lines}
 use Rattle.compositor.specs.declared.Settings.{Settings}
-use Rattle.compositor.specs.Layout.{column_limit, base_line, line_width, line_start}
-use Rattle.compositor.specs.Order.{Stroke, outline_strokes, glyph_strokes, letter_rows, letter_slant, any_letter_strokes, letter_strokes, line_strokes, lines_strokes, drawn_lines, drawing, stack_drawing}
+use Rattle.compositor.specs.Layout.{column_limit, line_height, base_line, line_width, line_start}
+use Rattle.compositor.specs.Order.{Stroke, outline_strokes, glyph_strokes, letter_rows, letter_slant, any_letter_strokes, letter_strokes, line_strokes, lines_strokes, drawing}
 use Rattle.compositor.specs.Picture.{stroke_on}
-use Rattle.compositor.specs.Ready.{InRange, most_lines, most_below}
+use Rattle.compositor.specs.Ready.{InRange, most_lines}
 use Rattle.compositor.specs.Settings.{most_side_margin, most_outline_cap}
 use Rattle.compositor.specs.Outline.{outline_of, displacement_row, displacement_rows, displacements}
 use Rattle.compositor.specs.Plain.{signed, slanted, plain_offset, plain_displacements, plain_column, plain_columns, plain_glyph_row, plain_stroke_row}
-use Rattle.compositor.proofs.Ranges.{slant_small, base_far}
+use Rattle.compositor.proofs.Ranges.{slant_small}
 use Rattle.compositor.proofs.Plain.{from_above, from_below, from_zero, is_sub, by_size, sub_same, add_sub, minus_sub, is_signed}
 
 -- ---- columns
@@ -145,7 +143,7 @@ module _ (rows : List ℕ) (slant : ℕ) (few : slant ≤ most_slant) (k : List 
       stroke_above rows (row_offsets slant) k x base y row (omega arith)
       ∙ sym (ap (λ (z : ℤ). plain_glyph_row rows slant k (signed x) z row) (falls ∙ from_below (y + bearing_y + origin) base h)))
 
--- ---- every stroke of a stack stands where that holds
+-- ---- every stroke of a caption stands where that holds
 
 pub record Placed (t : Stroke) : Type 0 where
   pub slant : ℕ
@@ -194,37 +192,28 @@ module _ (s : Settings) (range : InRange s) where
         by false true most = omega arith
         by false false most = omega arith
 
-    placed_lines : (below : ℕ) (lines : List Line) → below + length lines ≤ most_below → ((i : ℕ) → visible_cols ls (get_or lines i []) ≤ column_limit s)
-        → All Placed (lines_strokes s below ls lines)
+    base_far : (below : ℕ) → below ≤ most_lines → 16 ≤ base_line s below
+    unfolding base_line
+    base_far below h =
+        let tall : line_height s ≤ 1024 = let l = range.lines in omega arith in
+        let rise : below * line_height s ≤ most_lines * 1024 = mul-le-mul h tall in
+        omega arith
+
+    placed_lines : (lines : List Line) → length lines ≤ most_lines → ((i : ℕ) → visible_cols ls (get_or lines i []) ≤ column_limit s)
+        → All Placed (lines_strokes s ls lines)
     unfolding lines_strokes
-    placed_lines below [] few narrow = tt
-    placed_lines below (line ∷ lower) few narrow =
+    placed_lines [] few narrow = tt
+    placed_lines (line ∷ below) few narrow =
         let wide = range.narrow in
         let columns = narrow 0 in
         let x = line_start s (line_width (visible_cols ls line)) in
-        let base = base_line s (below + length lower) in
-        all_append Placed (line_strokes s x base (map (letter_of ls) line)) (lines_strokes s below ls lower)
-        (placed_line (map (letter_of ls) line) x base (start_far (line_width (visible_cols ls line)) (omega arith)) (let far = base_far s range (below + length lower) (omega arith) in omega arith))
-        (placed_lines below lower (omega arith) (λ i. narrow (suc i)))
+        let base = base_line s (length below) in
+        all_append Placed (line_strokes s x base (map (letter_of ls) line)) (lines_strokes s ls below)
+        (placed_line (map (letter_of ls) line) x base (start_far (line_width (visible_cols ls line)) (omega arith)) (base_far (length below) (omega arith)))
+        (placed_lines below (omega arith) (λ i. narrow (suc i)))
 
-    drawing_placed : (below : ℕ) → below + most_lines ≤ most_below → length ls ≤ most_letters → All Placed (drawing s below ls)
+    pub drawing_placed : length ls ≤ most_letters → All Placed (drawing s ls)
     unfolding drawing
-    drawing_placed below low h =
-        let few = few_lines_lem ls (column_limit s) (omega arith) in
-        placed_lines below (wrap_runs ls (column_limit s)) (omega arith) (narrow ls (column_limit s) (omega arith))
-
-  -- and so do those of captions that stand one above the other, as many as have room
-  captions_placed : (below : ℕ) (captions : List (List Letter)) → EachFew captions → below + length captions * most_lines ≤ most_below
-      → All Placed (stack_drawing s below captions)
-  unfolding stack_drawing
-  captions_placed below [] few low = tt
-  captions_placed below (ls ∷ others) few low =
-      let own = few.0 in
-      let lines = few_lines_lem ls (column_limit s) (omega arith) in
-      all_append Placed (drawing s below ls) (stack_drawing s (below + length (drawn_lines s ls)) others)
-      (drawing_placed ls below (omega arith) own)
-      (captions_placed (below + length (drawn_lines s ls)) others few.1 (omega arith))
-
-  -- which those of a stack have
-  pub stack_placed : (captions : List (List Letter)) → FewOf most_tapes captions → All Placed (stack_drawing s 0 captions)
-  stack_placed captions few = let n = few.0 in captions_placed 0 captions few.1 (omega arith)
+    drawing_placed h =
+        let few = few_lines ls (column_limit s) (omega arith) in
+        placed_lines (wrap_runs ls (column_limit s)) (omega arith) (narrow ls (column_limit s) (omega arith))

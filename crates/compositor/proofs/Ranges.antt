@@ -8,11 +8,11 @@ use native.Mathlib.Omega.{arith}
 use borrow.Author.Tests.{ltb-false}
 use lib.Dec.{ltb}
 use Rattle.font.specs.Slant.{most_slant}
+use Rattle.tape.specs.Command.{most_letters}
 use Rattle.compositor.specs.declared.Settings.{Settings}
 use Rattle.compositor.specs.Settings.{most_pixels, most_line_height, last_align, last_glyph_mode, most_side_margin, most_outline_cap, out_of_range, row_bytes, picture_bytes}
-use Rattle.compositor.specs.Layout.{line_height, base_line}
 use Rattle.compositor.specs.Outline.{outline_of}
-use Rattle.compositor.specs.Ready.{InRange, most_picture, most_below, most_rise}
+use Rattle.compositor.specs.Ready.{InRange, most_picture, most_rise}
 
 pub in_range : (s : Settings) → out_of_range s ≡ false → InRange s
 unfolding out_of_range
@@ -47,13 +47,5 @@ picture_small s r =
     let wide : row_bytes s ≤ 4 * most_pixels = omega arith in
     mul-le-mul r.low wide
 
-pub rise : (below h : ℕ) → below ≤ most_below → h ≤ most_line_height → below * h ≤ most_rise
+pub rise : (below h : ℕ) → below ≤ most_letters → h ≤ most_line_height → below * h ≤ most_rise
 rise below h p q = mul-le-mul p q
-
--- no base line is so high that a stroke around it would be cut off by the origin
-pub base_far : (s : Settings) → InRange s → (below : ℕ) → below ≤ most_below → 32 ≤ base_line s below
-unfolding base_line
-base_far s range below h =
-    let tall : line_height s ≤ most_line_height = let l = range.lines in omega arith in
-    let far = rise below (line_height s) h tall in
-    omega arith

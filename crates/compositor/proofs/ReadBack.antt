@@ -91,36 +91,36 @@ module _ (s : Settings) where
       unfolding line_strokes letters_at
       line_end x i h = let m : n - i ≡ 0 = omega arith in ap (λ (x' : ℕ). line_strokes s x base (letters_at ws (k + i) x')) m
 
-    -- ---- n lines, of which i are drawn, with so many of others below them; the next letter is the k-th
+    -- ---- n lines, of which i are drawn; the next letter is the k-th
 
-    module _ (below n : ℕ) where
+    module _ (n : ℕ) where
       abbrev pub lines_left : ℕ → ℕ → List Stroke
-      lines_left k i = strokes_at s below ws k i (n - i)
+      lines_left k i = strokes_at s ws k i (n - i)
 
-      pub lines_begin : strokes_at s below ws 0 0 n ≡ lines_left 0 0
-      lines_begin = let q : n ≡ n - 0 = omega arith in ap (strokes_at s below ws 0 0) q
+      pub lines_begin : strokes_at s ws 0 0 n ≡ lines_left 0 0
+      lines_begin = let q : n ≡ n - 0 = omega arith in ap (strokes_at s ws 0 0) q
 
       pub lines_turn : (k i : ℕ) → i < n
           → lines_left k i
-          ≡ line_strokes s (line_start s (line_width (columns_on ws i))) (base_line s (below + (n - 1 - i))) (letters_at ws k (letters_on ws i))
+          ≡ line_strokes s (line_start s (line_width (columns_on ws i))) (base_line s (n - 1 - i)) (letters_at ws k (letters_on ws i))
           ++ lines_left (k + letters_on ws i) (i + 1)
       unfolding strokes_at
       lines_turn k i h =
           let m : n - i ≡ suc (n - 1 - i) = omega arith in
           let r : n - 1 - i ≡ n - (i + 1) = omega arith in
-          ap (strokes_at s below ws k i) m
+          ap (strokes_at s ws k i) m
           ∙ ap
-          (λ (m' : ℕ). line_strokes s (line_start s (line_width (columns_on ws i))) (base_line s (below + (n - 1 - i))) (letters_at ws k (letters_on ws i))
-          ++ strokes_at s below ws (k + letters_on ws i) (suc i) m')
+          (λ (m' : ℕ). line_strokes s (line_start s (line_width (columns_on ws i))) (base_line s (n - 1 - i)) (letters_at ws k (letters_on ws i))
+          ++ strokes_at s ws (k + letters_on ws i) (suc i) m')
           r
           ∙ ap
-          (λ (j : ℕ). line_strokes s (line_start s (line_width (columns_on ws i))) (base_line s (below + (n - 1 - i))) (letters_at ws k (letters_on ws i))
-          ++ strokes_at s below ws (k + letters_on ws i) j (n - (i + 1)))
+          (λ (j : ℕ). line_strokes s (line_start s (line_width (columns_on ws i))) (base_line s (n - 1 - i)) (letters_at ws k (letters_on ws i))
+          ++ strokes_at s ws (k + letters_on ws i) j (n - (i + 1)))
           (sym (add-one i))
 
       pub lines_end : (k i : ℕ) → n ≤ i → lines_left k i ≡ []
       unfolding strokes_at
-      lines_end k i h = let m : n - i ≡ 0 = omega arith in ap (strokes_at s below ws k i) m
+      lines_end k i h = let m : n - i ≡ 0 = omega arith in ap (strokes_at s ws k i) m
 
 -- how many letters are read
 pub letters_length : (ws : List ℕ) (k n : ℕ) → length (letters_at ws k n) ≡ n

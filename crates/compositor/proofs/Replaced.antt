@@ -10,15 +10,15 @@ use Rattle.font.proofs.Modes.{not_told_apart}
 use Rattle.tape.specs.Outcome.{on_accepted}
 use Rattle.tape.specs.Runs.{Letter}
 use Rattle.tape.specs.Style.{default_with}
-use Rattle.tape.specs.Stack.{stack_letters}
+use Rattle.tape.specs.Tape.{tape_letters}
 use Rattle.wrap.specs.Columns.{is_break, is_space, is_blank, columns_of}
-use Rattle.wrap.specs.Lines.{Line, no_letter, letter_of, visible_cols}
+use Rattle.wrap.specs.Lines.{Line, no_letter, letter_of, visible_cols, wrap_runs}
 use Rattle.wrap.proofs.Alike.{Alike, same_columns_lem, same_lines_lem}
 use Rattle.compositor.specs.declared.Settings.{Settings}
 use Rattle.compositor.specs.Layout.{column_limit, base_line, line_width, line_start}
-use Rattle.compositor.specs.Order.{Stroke, letter_strokes, line_strokes, lines_strokes, drawn_lines, drawing, stack_drawing}
+use Rattle.compositor.specs.Order.{Stroke, letter_strokes, line_strokes, lines_strokes, drawing}
 use Rattle.compositor.specs.Picture.{row_after, picture_after}
-use Rattle.compositor.specs.Draw.{stack_strokes}
+use Rattle.compositor.specs.Draw.{tape_strokes}
 use Rattle.compositor.specs.Replaced.{replaced_letter, in_mode, DrawnReplaced, ReplacedFirst}
 use Rattle.compositor.proofs.Total.{total}
 
@@ -53,54 +53,42 @@ module _ (s : Settings) where
   line_strokes_lem x base [] = refl
   line_strokes_lem x base (l ∷ ls) = ap (λ (ts : List Stroke). letter_strokes (in_mode 1 s) l x base ++ ts) (line_strokes_lem (x + cell_w) base ls)
 
-  lines_strokes_lem : (below : ℕ) (ls : List Letter) (lines : List Line)
-      → lines_strokes (in_mode 1 s) below ls lines ≡ lines_strokes (in_mode 0 s) below (map replaced_letter ls) lines
+  lines_strokes_lem : (ls : List Letter) (lines : List Line) → lines_strokes (in_mode 1 s) ls lines ≡ lines_strokes (in_mode 0 s) (map replaced_letter ls) lines
   unfolding lines_strokes line_start base_line
-  lines_strokes_lem below ls [] = refl
-  lines_strokes_lem below ls (line ∷ lower) =
+  lines_strokes_lem ls [] = refl
+  lines_strokes_lem ls (line ∷ lower) =
       let start = line_start (in_mode 1 s) (line_width (visible_cols ls line)) in
-      let base = base_line (in_mode 1 s) (below + length lower) in
+      let base = base_line (in_mode 1 s) (length lower) in
       let columns = sym (same_columns_lem (alike ls) line) in
       let letters = sym (letters_at_lem ls line) in
       ap₂ (λ (a b : List Stroke). a ++ b)
       (line_strokes_lem start base (map (letter_of ls) line) ∙ λ i. line_strokes (in_mode 0 s) (line_start (in_mode 0 s) (line_width (columns i))) base (letters i))
-      (lines_strokes_lem below ls lower)
+      (lines_strokes_lem ls lower)
 
-  strokes : (below : ℕ) (ls : List Letter) → drawing (in_mode 1 s) below ls ≡ drawing (in_mode 0 s) below (map replaced_letter ls)
+  strokes : (ls : List Letter) → drawing (in_mode 1 s) ls ≡ drawing (in_mode 0 s) (map replaced_letter ls)
   unfolding drawing
-  strokes below ls =
-      lines_strokes_lem below ls (drawn_lines s ls)
-      ∙ ap (lines_strokes (in_mode 0 s) below (map replaced_letter ls)) (sym (same_lines_lem (alike ls) (column_limit s)))
+  strokes ls =
+      lines_strokes_lem ls (wrap_runs ls (column_limit s))
+      ∙ ap (lines_strokes (in_mode 0 s) (map replaced_letter ls)) (sym (same_lines_lem (alike ls) (column_limit s)))
 
-  -- caption after caption
-  stack_strokes_lem : (below : ℕ) (captions : List (List Letter))
-      → stack_drawing (in_mode 1 s) below captions ≡ stack_drawing (in_mode 0 s) below (map (map replaced_letter) captions)
-  unfolding stack_drawing
-  stack_strokes_lem below [] = refl
-  stack_strokes_lem below (ls ∷ others) =
-      ap₂ (λ (a b : List Stroke). a ++ b)
-      (strokes below ls)
-      (stack_strokes_lem (below + length (drawn_lines s ls)) others
-      ∙ ap (λ (lines : List Line). stack_drawing (in_mode 0 s) (below + length lines) (map (map replaced_letter) others)) (sym (same_lines_lem (alike ls) (column_limit s))))
-
-  drawn_replaced : (below : ℕ) (ls : List Letter) → DrawnReplaced s below ls
+  drawn_replaced : (ls : List Letter) → DrawnReplaced s ls
   unfolding row_after
-  drawn_replaced below ls =
+  drawn_replaced ls =
       record {
         same_limit = λ mode. refl;
-        same_total = λ mode. total (in_mode mode s) below ls ∙ sym (total s below ls);
+        same_total = λ mode. total (in_mode mode s) ls ∙ sym (total s ls);
         same_lines = same_lines_lem (alike ls);
         same_columns = same_columns_lem (alike ls);
-        same_strokes = strokes below ls;
-        same_row = λ c y. ap (λ (ts : List Stroke). row_after (in_mode 1 s) ts c y) (strokes below ls);
-        same_picture = λ c bytes. ap (λ (ts : List Stroke). picture_after (in_mode 1 s) ts c bytes) (strokes below ls);
+        same_strokes = strokes ls;
+        same_row = λ c y. ap (λ (ts : List Stroke). row_after (in_mode 1 s) ts c y) (strokes ls);
+        same_picture = λ c bytes. ap (λ (ts : List Stroke). picture_after (in_mode 1 s) ts c bytes) (strokes ls);
       }
 
 pub replaced_first : ReplacedFirst
-unfolding stack_strokes
+unfolding tape_strokes
 replaced_first =
     record {
       own_mode = λ s. refl;
       of_letters = drawn_replaced;
-      of_stack = λ s tapes i. on_accepted (λ captions. stack_strokes_lem s 0 captions i) (stack_letters (default_with s.default_color) tapes);
+      of_tape = λ s tape i. on_accepted (λ ls. strokes s ls i) (tape_letters (default_with s.default_color) tape);
     }

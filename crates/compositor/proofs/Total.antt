@@ -17,8 +17,7 @@ use Rattle.wrap.proofs.AllInked.{all_inked}
 use Rattle.compositor.specs.declared.Settings.{Settings}
 use Rattle.compositor.specs.Layout.{column_limit, base_line, line_width, line_start}
 use Rattle.compositor.specs.Outline.{outline_of, displacements}
-use Rattle.compositor.specs.Order.{Stroke, stroke, outline_strokes, glyph_strokes, any_letter_strokes, letter_strokes, line_strokes, lines_strokes, drawn_lines, drawing, stack_drawing}
-use Rattle.compositor.specs.Speakers.{stack_ink}
+use Rattle.compositor.specs.Order.{Stroke, stroke, outline_strokes, glyph_strokes, any_letter_strokes, letter_strokes, line_strokes, lines_strokes, drawing}
 use Rattle.compositor.proofs.Outlines.{displacements_length}
 
 glyph_length : (glyph offsets k own : List ℕ) (o x base : ℕ) → length (glyph_strokes glyph offsets k own o x base) ≡ 1 + 8 * o
@@ -60,25 +59,16 @@ module _ (s : Settings) where
           ∙ ap (λ (n : ℕ). n + inked_letters ls * each) (sym (zero-mul each))
           ∙ sym (add-mul 0 (inked_letters ls) each)
 
-  lines_length : (below : ℕ) (ls : List Letter) (r : List Line) → length (lines_strokes s below ls r) ≡ inked_in ls (flatten r) * each
+  lines_length : (ls : List Letter) (r : List Line) → length (lines_strokes s ls r) ≡ inked_in ls (flatten r) * each
   unfolding lines_strokes flatten inked_letters
-  lines_length below ls [] = sym (zero-mul each)
-  lines_length below ls (l ∷ r) =
-      length-append (line_strokes s (line_start s (line_width (visible_cols ls l))) (base_line s (below + length r)) (map (letter_of ls) l)) (lines_strokes s below ls r)
-      ∙ ap₂ (λ (a b : ℕ). a + b) (line_length _ _ (map (letter_of ls) l)) (lines_length below ls r)
+  lines_length ls [] = sym (zero-mul each)
+  lines_length ls (l ∷ r) =
+      length-append (line_strokes s (line_start s (line_width (visible_cols ls l))) (base_line s (length r)) (map (letter_of ls) l)) (lines_strokes s ls r)
+      ∙ ap₂ (λ (a b : ℕ). a + b) (line_length _ _ (map (letter_of ls) l)) (lines_length ls r)
       ∙ sym (add-mul (inked_in ls l) (inked_in ls (flatten r)) each)
       ∙ ap (λ (n : ℕ). n * each) (sym (ink_append ls l (flatten r)))
 
-  pub total : (below : ℕ) (ls : List Letter) → length (drawing s below ls) ≡ inked_letters ls * (1 + 8 * outline_of s)
+  pub total : (ls : List Letter) → length (drawing s ls) ≡ inked_letters ls * (1 + 8 * outline_of s)
   unfolding drawing
-  total below ls =
-      lines_length below ls (wrap_runs ls (column_limit s)) ∙ ap (λ (n : ℕ). n * each) (all_inked ls (column_limit s))
-
-  -- and of a stack
-  pub stack_total : (below : ℕ) (captions : List (List Letter)) → length (stack_drawing s below captions) ≡ stack_ink captions * (1 + 8 * outline_of s)
-  unfolding stack_drawing stack_ink
-  stack_total below [] = sym (zero-mul each)
-  stack_total below (ls ∷ others) =
-      length-append (drawing s below ls) (stack_drawing s (below + length (drawn_lines s ls)) others)
-      ∙ ap₂ (λ (a b : ℕ). a + b) (total below ls) (stack_total (below + length (drawn_lines s ls)) others)
-      ∙ sym (add-mul (inked_letters ls) (stack_ink others) each)
+  total ls =
+      lines_length ls (wrap_runs ls (column_limit s)) ∙ ap (λ (n : ℕ). n * each) (all_inked ls (column_limit s))

@@ -101,12 +101,12 @@ module _ (ls : List Letter) (r : List Line) (ws : List ℕ) (holds : Holds ls ws
     after_it : r ≡ (front ++ (l ∷ [])) ++ back
     after_it = e ∙ sym (append_assoc front (l ∷ []) back)
 
-  lines_back : (s : Settings) (below : ℕ) (front back : List Line) → r ≡ front ++ back
-      → strokes_at s below ws (length (flatten front)) (length front) (length back) ≡ lines_strokes s below ls back
+  lines_back : (s : Settings) (front back : List Line) → r ≡ front ++ back
+      → strokes_at s ws (length (flatten front)) (length front) (length back) ≡ lines_strokes s ls back
   unfolding strokes_at lines_strokes
-  lines_back s below front [] e = refl
-  lines_back s below front (l ∷ back) e =
-      let rest = lines_back s below (front ++ (l ∷ [])) back (after_it front l back e) in
+  lines_back s front [] e = refl
+  lines_back s front (l ∷ back) e =
+      let rest = lines_back s (front ++ (l ∷ [])) back (after_it front l back e) in
       rw (
         of_columns front l back e,
         on_line front l back e,
@@ -125,9 +125,9 @@ module _ (ls : List Letter) (r : List Line) (ws : List ℕ) (holds : Holds ls ws
       rw (on_line front l (some ++ back) e, next_line front l (some ++ back) e, rest) (sym (length-append l (flatten some)))
 
   -- all of them
-  pub strokes_back : (s : Settings) (below : ℕ) → strokes_at s below ws 0 0 (length r) ≡ lines_strokes s below ls r
+  pub strokes_back : (s : Settings) → strokes_at s ws 0 0 (length r) ≡ lines_strokes s ls r
   unfolding flatten
-  strokes_back s below = lines_back s below [] r refl
+  strokes_back s = lines_back s [] r refl
 
   pub letters_back_all : letters_from ws 0 (length r) ≡ length (flatten r)
   letters_back_all = sum_back [] r [] (sym (append-nil r))

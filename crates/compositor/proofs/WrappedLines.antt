@@ -5,10 +5,10 @@ use Prim.Native.Nat.{ℕ, suc, ◌+◌, ◌*◌, ◌≤◌, ◌<◌}
 use native.Mathlib.Nat.{mul-le-mul}
 use native.Mathlib.Omega.{arith}
 use lib.ListN.{length}
-use Rattle.tape.specs.Outcome.{accepted}
+use Rattle.tape.specs.Outcome.{Outcome, accepted}
 use Rattle.tape.specs.Command.{most_letters}
 use Rattle.tape.specs.Runs.{Letter}
-use Rattle.tape.specs.Tape.{tape_letters, least_room}
+use Rattle.tape.specs.Tape.{least_room}
 use Rattle.wrap.specs.declared.Lines.{Lines}
 use Rattle.wrap.specs.Lines.{Line, wrap_runs}
 use Rattle.wrap.specs.Shown.{inked_letters}
@@ -16,19 +16,18 @@ use Rattle.wrap.specs.Laid.{inked_through, Laid}
 use Rattle.wrap.proofs.AllInked.{all_inked}
 use Rattle.wrap.proofs.EachLetterOnce.{known}
 use Rattle.compositor.specs.declared.Settings.{Settings}
-use Rattle.compositor.specs.declared.stack.Cue.{Cue}
 use Rattle.compositor.specs.Layout.{column_limit}
 use Rattle.compositor.specs.Settings.{most_outline_cap}
 use Rattle.compositor.specs.Outline.{outline_of}
-use Rattle.compositor.specs.Order.{lines_strokes, drawn_lines, drawing}
+use Rattle.compositor.specs.Order.{Stroke, lines_strokes, drawing}
 use Rattle.compositor.specs.Read.{letters_at, letters_from, strokes_at, strokes_in, Readable}
-use Rattle.compositor.specs.Ready.{InRange, most_lines, most_of_tape, outer_style, letters_or, read_letters, CueRead}
+use Rattle.compositor.specs.Ready.{InRange, most_lines, most_strokes, CueLaid}
 use Rattle.compositor.proofs.Ranges.{outline_small}
 use Rattle.compositor.proofs.WorkspaceHolds.{readable, totals_back, strokes_back, letters_back_all}
 use Rattle.compositor.proofs.Total.{total}
 
 -- T is small
-pub total_small : (inked o : ℕ) → inked ≤ most_letters → o ≤ most_outline_cap → inked * (1 + 8 * o) ≤ most_of_tape
+pub total_small : (inked o : ℕ) → inked ≤ most_letters → o ≤ most_outline_cap → inked * (1 + 8 * o) ≤ most_strokes
 total_small inked o h k = mul-le-mul h (let each : 1 + 8 * o ≤ 1 + 8 * most_outline_cap = omega arith in each)
 
 module _ {ls : List Letter} {limit : ℕ} {made : Lines} {ws : List ℕ} (laid : Laid ls limit made ws) where
@@ -46,31 +45,23 @@ module _ {ls : List Letter} {limit : ℕ} {made : Lines} {ws : List ℕ} (laid :
   totals_read i h = totals_back ls r ws laid.letters laid.lines (known ls limit) i (rw laid.count at h)
 
   module _ (s : Settings) (limit_is : limit ≡ column_limit s) where
-    strokes_are_lem : (below : ℕ) → strokes_in s below ws made.lines ≡ drawing s below ls
+    pub strokes_are : strokes_in s ws made.lines ≡ drawing s ls
     unfolding drawing strokes_in
-    strokes_are_lem below =
-        ap (strokes_at s below ws 0 0) laid.count
-        ∙ strokes_back ls r ws laid.letters laid.lines (known ls limit) s below
-        ∙ ap (λ (L : ℕ). lines_strokes s below ls (wrap_runs ls L)) limit_is
+    strokes_are =
+        ap (strokes_at s ws 0 0) laid.count
+        ∙ strokes_back ls r ws laid.letters laid.lines (known ls limit) s
+        ∙ ap (λ (L : ℕ). lines_strokes s ls (wrap_runs ls L)) limit_is
 
-    -- of a tape with these letters the caption lies in the workspace, where a letter with ink has so many strokes
-    pub cue_laid : InRange s → (tape : List ℕ) → tape_letters (outer_style s) tape ≡ accepted ls → (each : ℕ) → each ≡ 1 + 8 * outline_of s
-        → least_room ≤ length ws → made.letters ≤ most_letters → made.inked ≤ most_letters → made.lines ≤ most_lines
-        → CueRead s tape ws (Cue.Laid made.lines (made.inked * each))
-    cue_laid range tape means each e room few_letters few-inked few =
-        let same : read_letters s tape ≡ ls = ap letters_or means in (
-          record {
-            means = means ∙ ap accepted (sym same);
-            lines_are = laid.count ∙ ap (λ (L : ℕ). length (wrap_runs ls L)) limit_is ∙ ap (λ (l : List Letter). length (drawn_lines s l)) (sym same);
-            few_lines = few;
-            strokes_are =
-                λ below. ap₂ (λ (n m : ℕ). n * m) (laid.inked_on_lines ∙ all_inked ls limit) e
-                ∙ sym (total s below ls)
-                ∙ ap (λ (l : List Letter). length (drawing s below l)) (sym same);
-            few_strokes = rw e (total_small made.inked (outline_of s) few-inked (outline_small s range));
-          },
-          record {
-            lined = record { readable = lines_readable room few_letters; few = few; inked = totals_read };
-            drawn = λ below. strokes_are_lem below ∙ ap (drawing s below) (sym same);
-          },
-        )
+    -- they can be drawn, where a letter with ink has so many strokes
+    pub cue_laid : InRange s → (o : Outcome (List Stroke)) → o ≡ accepted (drawing s ls) → (each : ℕ) → each ≡ 1 + 8 * outline_of s → least_room ≤ length ws
+        → made.letters ≤ most_letters → made.inked ≤ most_letters → made.lines ≤ most_lines → CueLaid s o ws made.lines (made.inked * each)
+    cue_laid range o means each e room few_letters few-inked few =
+        record {
+          lined = record { readable = lines_readable room few_letters; few = few; inked = totals_read };
+          means = means ∙ ap accepted (sym strokes_are);
+          counts =
+              ap₂ (λ (n m : ℕ). n * m) (laid.inked_on_lines ∙ all_inked ls limit) e
+              ∙ sym (total s ls)
+              ∙ ap length (sym strokes_are);
+          few = rw e (total_small made.inked (outline_of s) few-inked (outline_small s range));
+        }

@@ -5,7 +5,7 @@ use Rattle.tape.specs.Call.{IsFree, Came}
 use Rattle.compositor.specs.declared.Settings.{Settings}
 use Rattle.compositor.specs.Draw.{Tapes, draw_call, draw_picture}
 
--- the workspace and the picture's buffer before and after, and the answer: how many strokes the stack has
+-- the workspace and the picture's buffer before and after, and the answer: how many strokes the caption has
 abbrev pub Drawn : Settings → Tapes → List ℕ → List ℕ → List ℕ → List ℕ → Answer → Type 0
-Drawn s tapes ws ws' picture picture' answer =
-    Came (draw_call s (length ws) (length picture) tapes) length (draw_picture s picture) IsFree picture picture' ws ws' answer
+Drawn s tape ws ws' picture picture' answer =
+    Came (draw_call s (length ws) (length picture) tape) length (draw_picture s picture) IsFree picture picture' ws ws' answer

@@ -51,8 +51,8 @@ upright_letter l =
 pub record HouseOf (margin slant cap : ℕ) (s : Settings) : Type 0 where
   pub same_limit : column_limit (with_house margin slant cap s) ≡ column_limit s
   pub same_centre : s.align ≡ 0 → (w : ℕ) → line_start (with_house margin slant cap s) w ≡ line_start s w
-  pub total : (below : ℕ) (ls : List Letter)
-      → length (drawing (with_house margin slant cap s) below ls) ≡ inked_letters ls * (1 + 8 * min s.outline_px cap)
+  pub total : (ls : List Letter)
+      → length (drawing (with_house margin slant cap s) ls) ≡ inked_letters ls * (1 + 8 * min s.outline_px cap)
 
 -- With its own three numbers nothing of the settings changes. At slant 0 every row stays, and an italic letter's
 -- strokes are those of the upright one. At slant 2 row r moves by (bearing_y − r) · cell_w / (4 · cell_h) columns,

@@ -7,12 +7,12 @@ use Rattle.std.specs.Prelude.{◌≡◌, Bool, true, false, cond, List, [], ◌�
 use Rattle.font.specs.Font.{cell_w, table_of, glyph_rows}
 use Rattle.font.specs.Ink.{has_ink, is_inked}
 use Rattle.tape.specs.Runs.{Letter}
-use Rattle.wrap.specs.Lines.{Line, letter_of, visible_cols}
+use Rattle.wrap.specs.Lines.{Line, letter_of, visible_cols, wrap_runs}
 use Rattle.wrap.specs.Shown.{inked_letters}
 use Rattle.compositor.specs.declared.Settings.{Settings}
-use Rattle.compositor.specs.Layout.{base_line, line_width, line_start}
+use Rattle.compositor.specs.Layout.{column_limit, base_line, line_width, line_start}
 use Rattle.compositor.specs.Outline.{outline_of}
-use Rattle.compositor.specs.Order.{Stroke, any_letter_strokes, drawn_lines, drawing}
+use Rattle.compositor.specs.Order.{Stroke, any_letter_strokes, drawing}
 use Rattle.compositor.specs.Picture.{stroke_on, strokes_on, picture_after}
 
 -- the strokes that have ink
@@ -26,23 +26,23 @@ module _ (s : Settings) where
   line_of_all x base [] = []
   line_of_all x base (l ∷ ls) = any_letter_strokes s l x base ++ line_of_all (x + cell_w) base ls
 
-  unfoldable pub lines_of_all : ℕ → List Letter → List Line → List Stroke
-  lines_of_all below ls [] = []
-  lines_of_all below ls (line ∷ lower) =
-      line_of_all (line_start s (line_width (visible_cols ls line))) (base_line s (below + length lower)) (map (letter_of ls) line)
-      ++ lines_of_all below ls lower
+  unfoldable pub lines_of_all : List Letter → List Line → List Stroke
+  lines_of_all ls [] = []
+  lines_of_all ls (line ∷ lower) =
+      line_of_all (line_start s (line_width (visible_cols ls line))) (base_line s (length lower)) (map (letter_of ls) line)
+      ++ lines_of_all ls lower
 
-  unfoldable pub drawing_of_all : ℕ → List Letter → List Stroke
-  drawing_of_all below ls = lines_of_all below ls (drawn_lines s ls)
+  unfoldable pub drawing_of_all : List Letter → List Stroke
+  drawing_of_all ls = lines_of_all ls (wrap_runs ls (column_limit s))
 
--- of a caption's letters, with so many lines below it
-pub record InkAlone (s : Settings) (below : ℕ) (ls : List Letter) : Type 0 where
-  pub left_out : drawing s below ls ≡ with_ink (drawing_of_all s below ls)
-  pub total : length (drawing s below ls) ≡ inked_letters ls * (1 + 8 * outline_of s)
-  pub whole_row : (y : ℕ) (row : List ℕ) → strokes_on (drawing s below ls) y row ≡ strokes_on (drawing_of_all s below ls) y row
+-- of a caption's letters
+pub record InkAlone (s : Settings) (ls : List Letter) : Type 0 where
+  pub left_out : drawing s ls ≡ with_ink (drawing_of_all s ls)
+  pub total : length (drawing s ls) ≡ inked_letters ls * (1 + 8 * outline_of s)
+  pub whole_row : (y : ℕ) (row : List ℕ) → strokes_on (drawing s ls) y row ≡ strokes_on (drawing_of_all s ls) y row
   pub whole_picture : (bytes : List ℕ)
-      → picture_after s (drawing s below ls) (length (drawing s below ls)) bytes
-      ≡ picture_after s (drawing_of_all s below ls) (length (drawing_of_all s below ls)) bytes
+      → picture_after s (drawing s ls) (length (drawing s ls)) bytes
+      ≡ picture_after s (drawing_of_all s ls) (length (drawing_of_all s ls)) bytes
 
 -- of every caption; of the glyphs of both fonts, in every mode; and of a stroke without ink, wherever it stands
 pub record InklessLeftOut : Type 0 where
@@ -50,4 +50,4 @@ pub record InklessLeftOut : Type 0 where
   pub bold_alike : (mode code : ℕ)
       → has_ink (glyph_rows (table_of true) mode code) ≡ has_ink (glyph_rows (table_of false) mode code)
   pub no_ink : (t : Stroke) (y : ℕ) (row : List ℕ) → has_ink t.rows ≡ false → stroke_on t y row ≡ row
-  pub of_letters : (s : Settings) (below : ℕ) (ls : List Letter) → InkAlone s below ls
+  pub of_letters : (s : Settings) (ls : List Letter) → InkAlone s ls

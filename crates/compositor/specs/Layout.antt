@@ -1,4 +1,4 @@
--- WHERE LINES STAND: document 01, "Places and strokes", first paragraph, and document 02, S-9, S-10. Definitions only.
+-- WHERE LINES STAND: document 01, "Places and strokes", first paragraph, and document 02, S-10. Definitions only.
 -- A position is counted from an origin far left of and above the picture (`origin`, of the part Paint), so that it is
 -- never negative.
 use Rattle.std.specs.Prelude.{cond, ℕ, ◌+◌, ◌-◌, ◌*◌, ◌/◌, min, max, eqb, leb}
@@ -14,14 +14,13 @@ column_limit s = max 1 (s.width / cell_w)
 abbrev pub line_height : Settings → ℕ
 line_height s = max s.line_height_px cell_h
 
--- the picture's row on which the lowest line's base line stands: above the bottom margin by the rows of a cell from its
+-- the picture's row on which the last line's base line stands: above the bottom margin by the rows of a cell from its
 -- base line on, or by a whole cell if that is less; here these are 4. Each of the two subtractions stops at 0, so that
 -- the base line never stands above row 0
 abbrev pub last_base_line : Settings → ℕ
 last_base_line s = s.height - s.bottom_margin_px - min (cell_h - bearing_y) cell_h
 
--- the position of the base line of the line that has so many lines below it, of its own caption and of others: each
--- line above stands h higher, as far above the picture as that may be
+-- the position of the base line of the line that has so many lines below it: each line above stands h higher
 unfoldable pub base_line : Settings → ℕ → ℕ
 base_line s below = origin + last_base_line s - below * line_height s
 

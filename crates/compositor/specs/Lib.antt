@@ -11,7 +11,6 @@ pub mod Plain
 pub mod Replaced
 pub mod Inkless
 pub mod House
-pub mod Speakers
 pub mod Read
 pub mod Painting
 pub mod Ready

@@ -1,8 +1,7 @@
--- THE ONE DRAWING ORDER: document 01, "Places and strokes", second paragraph; 02, S-6, S-9, S-10. Definitions only.
--- A picture's strokes are one list: caption after caption, of each line after line from the top, letter after letter,
--- and of each letter with ink its outline's strokes and then its own. Strokes are counted along this list, so that a
--- row's history is measured in inked strokes: a space, or any other letter whose glyph has no ink, takes its cell and
--- has none.
+-- THE ONE DRAWING ORDER: document 01, "Places and strokes", second paragraph; 02, S-6, S-10. Definitions only.
+-- A caption's strokes are one list: line after line from the top, letter after letter, and of each letter with ink its
+-- outline's strokes and then its own. Strokes are counted along this list, so that a row's history is measured in inked
+-- strokes: a space, or any other letter whose glyph has no ink, takes its cell and has none.
 use Rattle.std.specs.Prelude.{cond, List, [], ◌∷◌, ◌++◌, map, ℕ, ◌+◌, ◌-◌, length}
 use Rattle.font.specs.Font.{cell_w, table_of, glyph_rows}
 use Rattle.font.specs.Ink.{has_ink}
@@ -62,24 +61,13 @@ module _ (s : Settings) where
   line_strokes x base [] = []
   line_strokes x base (l ∷ ls) = letter_strokes l x base ++ line_strokes (x + cell_w) base ls
 
-  -- the strokes of a caption's lines from the top down, with so many lines of others below them
-  unfoldable pub lines_strokes : ℕ → List Letter → List Line → List Stroke
-  lines_strokes below ls [] = []
-  lines_strokes below ls (line ∷ lower) =
-      line_strokes (line_start s (line_width (visible_cols ls line))) (base_line s (below + length lower)) (map (letter_of ls) line)
-      ++ lines_strokes below ls lower
+  -- the strokes of lines from the top down, the last of them at the last base line
+  unfoldable pub lines_strokes : List Letter → List Line → List Stroke
+  lines_strokes ls [] = []
+  lines_strokes ls (line ∷ lower) =
+      line_strokes (line_start s (line_width (visible_cols ls line))) (base_line s (length lower)) (map (letter_of ls) line)
+      ++ lines_strokes ls lower
 
-  -- the lines of a caption's letters
-  abbrev pub drawn_lines : List Letter → List Line
-  drawn_lines ls = wrap_runs ls (column_limit s)
-
-  -- the strokes of a caption's letters; they are the letters with ink times 1 + 8o
-  unfoldable pub drawing : ℕ → List Letter → List Stroke
-  drawing below ls = lines_strokes below ls (drawn_lines ls)
-
-  -- The strokes of captions, one after the other: each stands above those before it, its lowest line h higher than
-  -- their topmost, so that all their lines are below it. One without lines takes no room. T is how many strokes they
-  -- are.
-  unfoldable pub stack_drawing : ℕ → List (List Letter) → List Stroke
-  stack_drawing below [] = []
-  stack_drawing below (ls ∷ others) = drawing below ls ++ stack_drawing (below + length (drawn_lines ls)) others
+  -- the strokes of a caption's letters; T is how many they are, which is the letters with ink times 1 + 8o
+  unfoldable pub drawing : List Letter → List Stroke
+  drawing ls = lines_strokes ls (wrap_runs ls (column_limit s))

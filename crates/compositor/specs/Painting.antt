@@ -10,9 +10,6 @@ use Rattle.font.specs.declared.Pen.{Pen}
 use Rattle.font.specs.declared.paint.Rows.{Rows}
 use Rattle.font.specs.declared.paint.Spot.{Spot}
 use Rattle.compositor.specs.declared.strokes.Window.{Window}
-use Rattle.compositor.specs.declared.Settings.{Settings}
-use Rattle.compositor.specs.Layout.{base_line}
-use Rattle.compositor.specs.Outline.{outline_of}
 use Rattle.compositor.specs.Order.{Stroke, stroke, outline_strokes}
 use Rattle.compositor.specs.Picture.{strokes_on}
 
@@ -52,12 +49,6 @@ misses w n = leb n w.from || eqb w.to 0
 unfoldable pub off_rows : Rows → ℕ → ℕ → ℕ → Bool
 off_rows rows high low o =
     leb (low + o + (cell_h - bearing_y)) (origin + rows.first) || leb (origin + rows.first + rows.count + o + bearing_y) high
-
--- a caption of so many lines and strokes, with so many lines below it, can be passed by: it has no line, or the window
--- has none of its strokes, or they all miss the lent rows
-unfoldable pub passed : Rows → Settings → ℕ → ℕ → ℕ → Window → Bool
-passed rows s lines strokes below w =
-    eqb lines 0 || (misses w strokes || off_rows rows (base_line s (below + (lines - 1))) (base_line s below) (outline_of s))
 
 -- the lent rows with strokes
 abbrev pub painted : Rows → List Stroke → List ℕ → List ℕ

@@ -1,6 +1,6 @@
 -- POSITIONS IN SIGNED NUMBERS, counted from the picture's corner: document 01, "Places and strokes". Definitions only.
 -- They are the definitions of the parts Slant, Paint, Layout and Outline once more, for whoever builds with numbers
--- that may be below 0. It is proved that both are the same for every stroke of a stack, so that there no difference
+-- that may be below 0. It is proved that both are the same for every stroke of a caption, so that there no difference
 -- stops at 0, but beside a test that fails.
 use Rattle.std.specs.Prelude.{cond, ℕ, zero, suc, ◌+◌, ◌*◌, ◌/◌, max, ltb, eqb, leb, ℤ, pos, negsuc, neg_ℤ, ◌+ℤ◌, ◌-ℤ◌, length, get_or}
 use mathlib.Core.List.{List, [], ◌∷◌, map, flatten}

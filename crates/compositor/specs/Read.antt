@@ -19,12 +19,12 @@ unfoldable pub letters_from : List ℕ → ℕ → ℕ → ℕ
 letters_from ws i zero = 0
 letters_from ws i (suc n) = letters_on ws i + letters_from ws (suc i) n
 
--- the strokes of n lines from line i on, the first letter of which is the k-th, with so many lines of others below them
-unfoldable pub strokes_at : Settings → ℕ → List ℕ → ℕ → ℕ → ℕ → List Stroke
-strokes_at s below ws k i zero = []
-strokes_at s below ws k i (suc n) =
-    line_strokes s (line_start s (line_width (columns_on ws i))) (base_line s (below + n)) (letters_at ws k (letters_on ws i))
-    ++ strokes_at s below ws (k + letters_on ws i) (suc i) n
+-- the strokes of n lines from line i on, the first letter of which is the k-th
+unfoldable pub strokes_at : Settings → List ℕ → ℕ → ℕ → ℕ → List Stroke
+strokes_at s ws k i zero = []
+strokes_at s ws k i (suc n) =
+    line_strokes s (line_start s (line_width (columns_on ws i))) (base_line s n) (letters_at ws k (letters_on ws i))
+    ++ strokes_at s ws (k + letters_on ws i) (suc i) n
 
 -- so many letters on lines can be read, from the first on
 pub record Readable (ws : List ℕ) (letters : ℕ) : Type 0 where
@@ -33,5 +33,5 @@ pub record Readable (ws : List ℕ) (letters : ℕ) : Type 0 where
   pub known : (k : ℕ) → k < letters → number_at ws k < most_letters
 
 -- all of them: the strokes of the caption of so many lines
-unfoldable pub strokes_in : Settings → ℕ → List ℕ → ℕ → List Stroke
-strokes_in s below ws lines = strokes_at s below ws 0 0 lines
+unfoldable pub strokes_in : Settings → List ℕ → ℕ → List Stroke
+strokes_in s ws lines = strokes_at s ws 0 0 lines

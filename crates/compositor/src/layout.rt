@@ -1,11 +1,12 @@
 // Where lines stand. Positions are counted from the font's origin.
 ghost use Rattle.std.specs.Prelude.{◌≡◌, ◌+◌, ◌-◌, ◌*◌, ◌/◌, ◌≤◌, ◌<◌, length};
+ghost use Rattle.tape.specs.Command.{most_letters};
 ghost use Rattle.wrap.specs.Laid.{table_from, columns_on};
 ghost use Rattle.compositor.specs.Settings.{most_pixels, most_line_height};
 ghost use Rattle.compositor.specs.Layout.{column_limit, line_height, last_base_line, base_line, line_width, line_start};
 ghost use Rattle.font.specs.Font.{cell_w};
 ghost use Rattle.font.specs.Paint.{origin};
-ghost use Rattle.compositor.specs.Ready.{InRange, most_below, too_wide, least_start};
+ghost use Rattle.compositor.specs.Ready.{InRange, too_wide, least_start};
 
 use crate::Settings;
 use font::{BitmapFont, ORIGIN};
@@ -53,7 +54,7 @@ fn last_baseline(s: Settings) -> usize
 
 // The position of the base line of the line that has so many lines below it.
 pub fn baseline(s: Settings, below: usize) -> usize
-    requires { InRange s × (below ≤ most_below) }
+    requires { InRange s × (below ≤ most_letters) }
     ensures { (result ≡ base_line s below) × (32 ≤ result) × (result + 16 < 2 * origin) }
 {
     ORIGIN + last_baseline(s) - below * line_height(s)

@@ -1,22 +1,21 @@
-// The compositor: draws the letters of cues, outlined, on a cleared picture.
+// The compositor: draws a cue's letters, outlined, on a cleared picture.
 // Carried over from `Compositor` of src/compositor.rs of oxideav-subtitle; what is drawn is in specs/.
 // `ws` is the workspace throughout.
 mod layout;
-pub mod stack;
 pub mod strokes;
 
 ghost use Rattle.std.specs.Prelude.{◌≡◌, cond, ◌++◌, ◌+◌, ◌*◌, ◌≤◌, ◌<◌, length, drop, replicate};
-ghost use Rattle.tape.specs.Lent.{handed};
+ghost use Rattle.tape.specs.Tape.{most_bytes, least_room};
 ghost use Rattle.compositor.specs.Settings.{most_outline_cap, out_of_range, picture_bytes};
 ghost use Rattle.compositor.specs.Outline.{outline_of};
-ghost use Rattle.compositor.specs.Draw.{cue_call, draw_picture};
+ghost use Rattle.compositor.specs.Draw.{tape_strokes, cue_call, draw_picture};
 ghost use Rattle.compositor.specs.Drawn.{Drawn};
-ghost use Rattle.compositor.specs.Ready.{InRange, Checked, all_strokes, StackLaid, StackRead};
+ghost use Rattle.compositor.specs.Read.{strokes_in};
+ghost use Rattle.compositor.specs.Ready.{InRange, Checked, Lined, CueRead};
 
 use font::Rows;
-use stack::{StackAnswer, Stacked};
 use strokes::Window;
-use tape::Answer;
+use tape::{Answer, Style};
 
 const MOST_PIXELS: u32 = 4096;
 
@@ -114,10 +113,19 @@ impl Settings {
     }
 }
 
-// What is refused before a tape is read, by its number: 8, 9, 18, 10 or 11, or else `extra`, for what the
+// A tape's caption.
+#[derive(Drop)]
+pub enum Cue {
+    // It lies in the workspace, wrapped: how many lines it has, and strokes.
+    Laid(usize, usize),
+    // A refusal's number and place.
+    Refused(u8, usize),
+}
+
+// What is refused before a tape is read, by its number: 8, 9, 10 or 11, or else `extra`, for what the
 // call has to check besides. 0 is nothing.
-fn first_fault(s: Settings, tapes: &[u8], ends: &[u32], room: usize, size: usize, extra: u8) -> u8
-    ensures { Checked s (handed tapes.now ends.now) room size extra result }
+fn first_fault(s: Settings, tape: &[u8], room: usize, size: usize, extra: u8) -> u8
+    ensures { Checked s tape.now room size extra result }
 {
     if s.is_out_of_range() {
         return 8;
@@ -125,10 +133,7 @@ fn first_fault(s: Settings, tapes: &[u8], ends: &[u32], room: usize, size: usize
     if size < s.picture_bytes() {
         return 9;
     }
-    if tape::stack::is_unfit(tapes.len(), ends) {
-        return 18;
-    }
-    if tape::stack::has_too_long(ends) {
+    if tape::MOST_BYTES < tape.len() {
         return 10;
     }
     if room < tape::LEAST_ROOM {
@@ -137,30 +142,32 @@ fn first_fault(s: Settings, tapes: &[u8], ends: &[u32], room: usize, size: usize
     extra
 }
 
-// Checks what every call that draws checks, for a picture's buffer of `size` bytes, and reads the
-// tapes; `extra` is the number of what the call has to refuse besides, before a tape is read, or 0.
-pub fn read_stack(
-    s: Settings,
-    tapes: &[u8],
-    ends: &[u32],
-    ws: &mut [u8],
-    size: usize,
-    extra: u8,
-) -> StackAnswer
-    ensures { StackRead s (cue_call s (length ws.old) size (handed tapes.now ends.now) extra)
-        (handed tapes.now ends.now) ws.old ws.new result.stacked result.answer }
+// Reads a tape and puts its letters on lines.
+fn lay_cue(s: Settings, tape: &[u8], ws: &mut [u8]) -> Cue
+    requires { InRange s × (length tape.now ≤ most_bytes) × (least_room ≤ length ws.old) }
+    ensures { CueRead s (tape_strokes s tape.now) ws.old ws.new result }
 {
-    let fault = first_fault(s, tapes, ends, ws.len(), size, extra);
-    if 0 < fault {
-        return StackAnswer {
-            answer: Answer::Refused(fault, 0),
-            stacked: Stacked {
-                lines: [0; 8],
-                strokes: [0; 8],
-            },
-        };
+    let color = s.default_color;
+    match tape::read_tape(tape, ws, Style::default_with(color)) {
+        Answer::Accepted(count) => {
+            let made = wrap::wrap_runs(ws, count, layout::column_limit(s));
+            Cue::Laid(made.lines, made.inked * s.letter_strokes())
+        }
+        Answer::Refused(number, place) => Cue::Refused(number, place),
     }
-    stack::lay_stack(s, tapes, ends, ws)
+}
+
+// Checks what every call that draws checks, for a picture's buffer of `size` bytes, and reads the
+// tape; `extra` is the number of what the call has to refuse besides, before the tape is read, or 0.
+pub fn read_cue(s: Settings, tape: &[u8], ws: &mut [u8], size: usize, extra: u8) -> Cue
+    ensures { CueRead s (cue_call s (length ws.old) size tape.now extra)
+        ws.old ws.new result }
+{
+    let fault = first_fault(s, tape, ws.len(), size, extra);
+    if 0 < fault {
+        return Cue::Refused(fault, 0);
+    }
+    lay_cue(s, tape, ws)
 }
 
 // Zeroes the first `size` bytes.
@@ -175,20 +182,10 @@ pub fn clear(picture: &mut [u8], size: usize)
     }
 }
 
-// Draws a stack that was read, all its strokes, on a cleared picture.
-fn draw_whole(
-    s: Settings,
-    tapes: &[u8],
-    ends: &[u32],
-    ws: &mut [u8],
-    stacked: Stacked,
-    total: usize,
-    picture: &mut [u8],
-)
-    requires { InRange s × (picture_bytes s ≤ length picture.old) × StackLaid s (handed tapes.now ends.now) ws.old stacked
-        × (total ≡ length (all_strokes s (handed tapes.now ends.now))) }
-    ensures { picture.new
-        ≡ draw_picture s picture.old (all_strokes s (handed tapes.now ends.now)) }
+// Draws the caption that lies in the workspace, all its strokes, on a cleared picture.
+fn draw_cue(s: Settings, ws: &[u8], lines: usize, total: usize, picture: &mut [u8])
+    requires { InRange s × (picture_bytes s ≤ length picture.old) × Lined ws.now lines × (total ≡ length (strokes_in s ws.now lines)) }
+    ensures { picture.new ≡ draw_picture s picture.old (strokes_in s ws.now lines) }
 {
     clear(picture, s.picture_bytes());
     let rows = Rows {
@@ -197,29 +194,19 @@ fn draw_whole(
         first: 0,
     };
     let all = Window { from: 0, to: total };
-    stack::draw_stack(picture, rows, s, tapes, ends, ws, stacked, all);
+    strokes::draw_lines(picture, rows, ws, s, lines, all);
 }
 
-// The call Draw: the picture then shows the tapes' captions on zeros, and the answer is how many
-// strokes they have. A refusal leaves the picture as it is.
-pub fn render_into(
-    s: Settings,
-    tapes: &[u8],
-    ends: &[u32],
-    ws: &mut [u8],
-    picture: &mut [u8],
-) -> Answer
-    ensures { Drawn s (handed tapes.now ends.now) ws.old ws.new
-        picture.old picture.new result }
+// The call Draw: the picture then shows the tape's caption on zeros, and the answer is how many
+// strokes it has. A refusal leaves the picture as it is.
+pub fn render_into(s: Settings, tape: &[u8], ws: &mut [u8], picture: &mut [u8]) -> Answer
+    ensures { Drawn s tape.now ws.old ws.new picture.old picture.new result }
 {
-    let read = read_stack(s, tapes, ends, ws, picture.len(), 0);
-    let stacked = read.stacked;
-    let answer = read.answer;
-    match answer {
-        Answer::Accepted(total) => {
-            draw_whole(s, tapes, ends, ws, stacked, total, picture);
+    match read_cue(s, tape, ws, picture.len(), 0) {
+        Cue::Laid(lines, total) => {
+            draw_cue(s, ws, lines, total, picture);
             Answer::Accepted(total)
         }
-        Answer::Refused(number, place) => Answer::Refused(number, place),
+        Cue::Refused(number, place) => Answer::Refused(number, place),
     }
 }

@@ -13,8 +13,8 @@ ghost use Rattle.compositor.specs.Layout.{line_width, line_start};
 ghost use Rattle.compositor.specs.Outline.{distance, at_distance, displacement_row, displacements};
 ghost use Rattle.compositor.specs.Order.{letter_strokes, line_strokes};
 ghost use Rattle.compositor.specs.Read.{letters_at, strokes_at, strokes_in, Readable};
-ghost use Rattle.compositor.specs.Painting.{Near, Fonts, stroke_of, strokes_of, cut, misses, after, off_rows, passed, painted, Painted};
-ghost use Rattle.compositor.specs.Ready.{most_lines, most_below, InRange, Lined};
+ghost use Rattle.compositor.specs.Painting.{Near, Fonts, stroke_of, strokes_of, cut, misses, after, off_rows, painted, Painted};
+ghost use Rattle.compositor.specs.Ready.{most_lines, InRange, Lined};
 
 use crate::{Settings, layout};
 use font::{BitmapFont, GlyphKey, ORIGIN, Pen, Rows, Spot};
@@ -49,7 +49,7 @@ impl Window {
     }
 
     // The window counted from the stroke after the next n.
-    pub fn past(self, n: usize) -> Window
+    fn past(self, n: usize) -> Window
         ensures { result ≡ after self n }
     {
         Window {
@@ -331,8 +331,7 @@ fn place_line(
     draw_line(part, rows, regular, bold, slanted, ws, span, s, at, window)
 }
 
-// Draws the lines of the workspace's table, so many, from the top down, with so many of others below
-// them.
+// Draws the lines of the workspace's table, so many, from the top down.
 fn draw_each_line(
     part: &mut [u8],
     rows: Rows,
@@ -342,12 +341,11 @@ fn draw_each_line(
     ws: &[u8],
     s: Settings,
     lines: usize,
-    below: usize,
     window: Window,
 )
     requires { Lent (length part.old) rows × Fonts s.slant regular.now bold.now slanted.now
-        × Lined ws.now lines × InRange s × (below + lines ≤ most_below) }
-    ensures { part.new ≡ painted rows (cut window (strokes_at s below ws.now 0 0 lines)) part.old }
+        × Lined ws.now lines × InRange s }
+    ensures { part.new ≡ painted rows (cut window (strokes_at s ws.now 0 0 lines)) part.old }
 {
     let mut left = window;
     let mut first = 0;
@@ -361,7 +359,7 @@ fn draw_each_line(
             letters,
             inked: through - before,
         };
-        let y = layout::baseline(s, below + (lines - 1 - i));
+        let y = layout::baseline(s, lines - 1 - i);
         left = place_line(part, rows, regular, bold, slanted, ws, i, span, s, y, left);
         first += letters;
         before = through;
@@ -369,51 +367,25 @@ fn draw_each_line(
     }
 }
 
-// Draws the lines of the workspace, with so many of others below them. The tables are laid out here,
-// once, and lent.
-pub fn draw_lines(
-    part: &mut [u8],
-    rows: Rows,
-    ws: &[u8],
-    s: Settings,
-    lines: usize,
-    below: usize,
-    window: Window,
-)
-    requires { Lent (length part.old) rows × Lined ws.now lines × InRange s × (below + lines ≤ most_below) }
-    ensures { part.new ≡ painted rows (cut window (strokes_in s below ws.now lines)) part.old }
+// Draws the lines of the workspace. The tables are laid out here, once, and lent; not where no line
+// can touch the lent rows.
+pub fn draw_lines(part: &mut [u8], rows: Rows, ws: &[u8], s: Settings, lines: usize, window: Window)
+    requires { Lent (length part.old) rows × Lined ws.now lines × InRange s }
+    ensures { part.new ≡ painted rows (cut window (strokes_in s ws.now lines)) part.old }
 {
+    if lines == 0 {
+        return;
+    }
+    let high = layout::baseline(s, lines - 1);
+    let low = layout::baseline(s, 0);
+    if is_off(rows, high, low, s.outline()) {
+        return;
+    }
     let font = BitmapFont::default_regular();
     let regular = font.table();
     let heavy = BitmapFont::default_bold();
     let bold = heavy.table();
     let italic = Pen::new([0; 4], false, s.slant);
     let slanted = italic.row_offsets();
-    draw_each_line(
-        part, rows, &regular, &bold, &slanted, ws, s, lines, below, window,
-    );
-}
-
-// Whether a caption of so many lines and strokes, with so many lines below it, can be passed by: it has no
-// line, or the window has none of its strokes, or they all miss the lent rows.
-pub fn is_passed(
-    rows: Rows,
-    s: Settings,
-    lines: usize,
-    strokes: usize,
-    below: usize,
-    window: Window,
-) -> bool
-    requires { (rows.count ≤ most_lent) × (rows.first ≤ most_lent) × InRange s × (below + lines ≤ most_below) }
-    ensures { result ≡ passed rows s lines strokes below window }
-{
-    if lines == 0 {
-        return true;
-    }
-    if window.misses(strokes) {
-        return true;
-    }
-    let high = layout::baseline(s, below + (lines - 1));
-    let low = layout::baseline(s, below);
-    is_off(rows, high, low, s.outline())
+    draw_each_line(part, rows, &regular, &bold, &slanted, ws, s, lines, window);
 }

@@ -18,7 +18,7 @@ use Rattle.job.proofs.CallWork.{strokes_done}
 
 -- the largest number of a refusal
 abbrev pub most_number : ℕ
-most_number = 18
+most_number = 14
 
 fault_most : (s : Settings) (d : Division) → stripes_fault s d ≤ most_number
 unfolding stripes_fault
@@ -28,13 +28,13 @@ fault_most s d = by (ltb most_stripes (length d) || not (rises_to s.height 0 d))
     by true = lit≤ tt
     by false = lit≤ tt
 
-pub open_bounded : (s : Settings) (room size : ℕ) (tapes : Tapes) (d : Division) → Bounded Few most_number (open_call s room size tapes d)
-open_bounded s room size tapes d = cue_bounded s room size tapes (stripes_fault s d) most_number (lit≤ tt) (fault_most s d)
+pub open_bounded : (s : Settings) (room size : ℕ) (tape : Tapes) (d : Division) → Bounded Few most_number (open_call s room size tape d)
+open_bounded s room size tape d = cue_bounded s room size tape (stripes_fault s d) most_number (lit≤ tt) (fault_most s d)
 
-pub work_bounded : (s : Settings) (room size : ℕ) (tapes : Tapes) (job : JobRecord) (k n : ℕ)
-    → Bounded Few most_number (work_call s room size tapes job k n)
+pub work_bounded : (s : Settings) (room size : ℕ) (tape : Tapes) (job : JobRecord) (k n : ℕ)
+    → Bounded Few most_number (work_call s room size tape job k n)
 unfolding work_call stripe_call
-work_bounded s room size tapes job k n = go (open_call s room size tapes (division_of job.stripes)) (open_bounded s room size tapes (division_of job.stripes))
+work_bounded s room size tape job k n = go (open_call s room size tape (division_of job.stripes)) (open_bounded s room size tape (division_of job.stripes))
   where
     go : (o : Outcome (List Stroke)) → Bounded Few most_number o → Bounded Few most_number (and_then (stripe_call job k n) o)
     go (accepted ts) b =

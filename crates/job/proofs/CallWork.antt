@@ -80,17 +80,17 @@ module _ (s : Settings) (ts : List Stroke) (ws picture : List ℕ) (job : JobRec
 
 -- ---- Work
 
-module _ (s : Settings) (tapes : Tapes) (ws ws' picture : List ℕ) (job : JobRecord) (k n : ℕ) where
+module _ (s : Settings) (tape : Tapes) (ws ws' picture : List ℕ) (job : JobRecord) (k n : ℕ) where
   abbrev opens : Outcome (List Stroke)
-  opens = open_call s (length ws) (length picture) tapes (division_of job.stripes)
+  opens = open_call s (length ws) (length picture) tape (division_of job.stripes)
 
   pub not_worked : {number place : ℕ} → opens ≡ refused number place → (keeps_workspace number ≡ true → ws' ≡ ws)
-      → Worked s tapes ws ws' picture picture job k n (record { answer = Answer.Refused number place; job = job })
+      → Worked s tape ws ws' picture picture job k n (record { answer = Answer.Refused number place; job = job })
   unfolding work_call
   not_worked e l = refuses (ap (and_then (stripe_call job k n)) e) l
 
   pub worked_on : {picture' : List ℕ} {ts : List Stroke} {r : JobAnswer} {own : List ℕ} → opens ≡ accepted ts
-      → Did s job k (stripe_call job k n ts) own picture picture' r → Worked s tapes ws ws' picture picture' job k n r
+      → Did s job k (stripe_call job k n ts) own picture picture' r → Worked s tape ws ws' picture picture' job k n r
   unfolding work_call
   worked_on {ts = ts} e d =
       comes_to (ap (and_then (stripe_call job k n)) e)

@@ -8,7 +8,6 @@ use Rattle.tape.specs.Style.{same_style}
 use Rattle.tape.specs.Command.{code_point, is_letter, is_opener, is_scalar, added, fault_of, command_of}
 use Rattle.tape.specs.Runs.{merge_into, letters_of}
 use Rattle.tape.specs.Tape.{least_room, read, tape_runs, tape_letters}
-use Rattle.tape.specs.Stack.{tapes_from, reaches_to, ends_unfit, some_too_long, tapes_letters}
 use Rattle.tape.specs.Segments.{letter_bytes}
 use Rattle.font.specs.Font.{tabulate, regular_table}
 use Rattle.font.specs.Ink.{has_ink}
@@ -16,10 +15,9 @@ use Rattle.wrap.specs.Lines.{up_from, without_last, visible_cols, logical_lines,
 use Rattle.compositor.specs.Settings.{out_of_range}
 use Rattle.compositor.specs.Layout.{base_line, line_start}
 use Rattle.compositor.specs.Outline.{displacement_row, displacement_rows, displacements}
-use Rattle.compositor.specs.Order.{Stroke, glyph_strokes, line_strokes, lines_strokes, drawing, stack_drawing}
-use Rattle.compositor.specs.Draw.{Tapes, stack_strokes, cue_call}
-use Rattle.compositor.specs.Speakers.{ends_of, stack_of}
-use Rattle.compositor.proofs.Cases.{settings, only, AB}
+use Rattle.compositor.specs.Order.{Stroke, glyph_strokes, line_strokes, lines_strokes, drawing}
+use Rattle.compositor.specs.Draw.{tape_strokes, cue_call}
+use Rattle.compositor.proofs.Cases.{settings, AB}
 use Rattle.job.specs.declared.Stripes.{Stripes}
 use Rattle.job.specs.Stripes.{Division, most_stripes, stripe_of, has_stripe, rises_to, stripes_fault, equal_ends, division_of, stripes_with, new_record, no_record, counters_unsound}
 use Rattle.job.specs.Work.{open_call, stripe_call, work_call}
@@ -30,13 +28,9 @@ handed count ends = record { stripe_count = count; end_rows = ends ++ replicate 
 
 -- a job on a picture of one row in one stripe, which has had c strokes; the next counter is d: Work on stripe k with
 -- budget n
-abbrev work_on : Tapes → ℕ → ℕ → ℕ → ℕ → Outcome (List Stroke)
-work_on tapes c d k n =
-    work_call (settings 32 1 0 1 0) least_room 128 tapes (record { stripes = handed 1 (1 ∷ []); counters = c ∷ d ∷ replicate 62 0 }) k n
-
--- the same with a stack of one tape
 abbrev work : ℕ → ℕ → ℕ → ℕ → List ℕ → Outcome (List Stroke)
-work c d k n tape = work_on (only tape) c d k n
+work c d k n tape =
+    work_call (settings 32 1 0 1 0) least_room 128 tape (record { stripes = handed 1 (1 ∷ []); counters = c ∷ d ∷ replicate 62 0 }) k n
 
 abbrev Does : ℕ → ℕ → List ℕ → ℕ → Type 0
 Does c n tape m = on_accepted length (work c 0 0 n tape) ≡ accepted m
@@ -44,11 +38,7 @@ Does c n tape m = on_accepted length (work c 0 0 n tape) ≡ accepted m
 -- Open on a picture of one column and so many rows, with such stripes, and with a workspace of `room` bytes; the tape is
 -- faulty, so that what comes behind 13 is 1
 abbrev opens : ℕ → ℕ → Stripes → Outcome (List Stroke)
-opens room height stripes = open_call (settings 1 height 0 0 0) room (4 * height) (only (0x0c ∷ [])) (division_of stripes)
-
--- a stack of two tapes, of 18 strokes and of 9
-abbrev both : Tapes
-both = stack_of (AB ∷ letter_bytes 0x43 ∷ [])
+opens room height stripes = open_call (settings 1 height 0 0 0) room (4 * height) (0x0c ∷ []) (division_of stripes)
 
 abbrev Taken : ℕ → ℕ → List ℕ → Type 0
 Taken height count ends = opens least_room height (handed count ends) ≡ refused 1 0
@@ -80,18 +70,12 @@ pub record Cases : Type 0 where
   pub kept : ((new_record (division_of (handed 1 (3 ∷ 7 ∷ [])))).stripes ≡ handed 1 (3 ∷ [])) × (no_record.stripes ≡ handed 0 [])
   -- of the 18 strokes of AB with an outline of 1, 5 are done, or all
   pub budgets : Does 5 0 AB 0 × Does 5 3 AB 3 × Does 5 0xffff_ffff AB 13 × Does 18 7 AB 0
-  -- of a stack the strokes of the first tape are done, and then those of the second, up to the sum
-  pub stack :
-      (on_accepted length (work_on both 17 0 0 3) ≡ accepted 3) × (on_accepted length (work_on both 18 0 0 0xffff_ffff) ≡ accepted 9)
-      × (on_accepted length (work_on both 27 0 0 1) ≡ accepted 0) × (work_on both 28 0 0 1 ≡ refused 14 0)
-  -- 18 comes before 13, and 13 before the tapes' faults
-  pub ends_first : open_call (settings 1 1 0 0 0) least_room 4 (record { tape_bytes = []; tape_ends = [] }) [] ≡ refused 18 0
   -- a counter over T, or past the last stripe, comes before a stripe that is not there
   pub records :
       (work 19 0 1 1 AB ≡ refused 14 0) × (work 0 1 0 1 AB ≡ refused 14 0) × (work 18 0 1 1 AB ≡ refused 12 0) × (work 0 0 0xffff_ffff 1 AB ≡ refused 12 0)
 
 pub cases : Cases
-unfolding has_ink work_call stripe_call counters_unsound stripes_fault rises_to stripe_of has_stripe division_of stripes_with equal_ends cue_call stack_strokes stack_of ends_of tapes_from ends_unfit reaches_to some_too_long tapes_letters out_of_range stack_drawing drawing lines_strokes line_strokes glyph_strokes displacements displacement_rows displacement_row line_start base_line tabulate regular_table wrap_runs visible_cols logical_lines tokenise is_space_token chunks put_chunks add_or_break put_token put_tokens fill without_last up_from flatten tape_letters tape_runs read fault_of command_of code_point is_letter is_opener is_scalar added merge_into letters_of same_style letter_bytes
+unfolding has_ink work_call stripe_call counters_unsound stripes_fault rises_to stripe_of has_stripe division_of stripes_with equal_ends cue_call tape_strokes out_of_range drawing lines_strokes line_strokes glyph_strokes displacements displacement_rows displacement_row line_start base_line tabulate regular_table wrap_runs visible_cols logical_lines tokenise is_space_token chunks put_chunks add_or_break put_token put_tokens fill without_last up_from flatten tape_letters tape_runs read fault_of command_of code_point is_letter is_opener is_scalar added merge_into letters_of same_style letter_bytes
 cases =
     record {
       rows = (refl, refl, refl, refl, refl, refl, refl);
@@ -101,7 +85,5 @@ cases =
       equal = (refl, refl, refl, refl, refl);
       kept = (refl, refl);
       budgets = (refl, refl, refl, refl);
-      stack = (refl, refl, refl, refl);
-      ends_first = refl;
       records = (refl, refl, refl, refl);
     }

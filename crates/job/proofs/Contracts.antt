@@ -5,7 +5,6 @@ use mathlib.Core.Path.{◌≡◌, refl}
 use contract.Lifetimes.{Lfts}
 use denote.Triple.Clauses.{AtExit}
 use borrow.Fn.Kinds.{Dens, ended_of}
-use Rattle.tape.specs.Lent.{handed}
 use Rattle.job.specs.declared.JobAnswer.{JobAnswer}
 use Rattle.job.specs.Stripes.{division_of}
 use Rattle.job.specs.Worked.{Opened, Worked}
@@ -14,24 +13,23 @@ use Rattle.job.proofs.open.Reads as open-reads
 use Rattle.job.proofs.work.Kinds as work-kinds
 use Rattle.job.proofs.work.Reads as work-reads
 
--- what is given: settings, tapes and their ends, workspace, picture and stripes; at exit the workspace and the picture
-module _ (κs : Lfts 4) (a : Dens κs open-kinds.ps) where
+-- what is given: settings, tape, workspace, picture and stripes; at exit the workspace and the picture
+module _ (κs : Lfts 3) (a : Dens κs open-kinds.ps) where
   open_asks : open-reads.Pre κs a ≡ Unit {0}
   open_asks = refl
 
-  open_tells : (r : JobAnswer) (x : AtExit (ended_of 4 open-kinds.ps open-kinds.r) κs)
+  open_tells : (r : JobAnswer) (x : AtExit (ended_of 3 open-kinds.ps open-kinds.r) κs)
       → open-reads.Post κs a r x
-      ≡ Opened a.0 (handed a.1.0.now a.1.1.0.now) a.1.1.1.0.now x.1.1.1.0.now a.1.1.1.1.0.now x.1.1.1.1.0.now
-      (division_of a.1.1.1.1.1.0) r
+      ≡ Opened a.0 a.1.0.now a.1.1.0.now x.1.1.0.now a.1.1.1.0.now x.1.1.1.0.now (division_of a.1.1.1.1.0) r
   open_tells r x = refl
 
 -- the same with the record, the stripe and the budget in place of the stripes
-module _ (κs : Lfts 4) (a : Dens κs work-kinds.ps) where
+module _ (κs : Lfts 3) (a : Dens κs work-kinds.ps) where
   work_asks : work-reads.Pre κs a ≡ Unit {0}
   work_asks = refl
 
-  work_tells : (r : JobAnswer) (x : AtExit (ended_of 4 work-kinds.ps work-kinds.r) κs)
+  work_tells : (r : JobAnswer) (x : AtExit (ended_of 3 work-kinds.ps work-kinds.r) κs)
       → work-reads.Post κs a r x
-      ≡ Worked a.0 (handed a.1.0.now a.1.1.0.now) a.1.1.1.0.now x.1.1.1.0.now a.1.1.1.1.0.now x.1.1.1.1.0.now
-      a.1.1.1.1.1.0 a.1.1.1.1.1.1.0 a.1.1.1.1.1.1.1.0 r
+      ≡ Worked a.0 a.1.0.now a.1.1.0.now x.1.1.0.now a.1.1.1.0.now x.1.1.1.0.now a.1.1.1.1.0
+      a.1.1.1.1.1.0 a.1.1.1.1.1.1.0 r
   work_tells r x = refl

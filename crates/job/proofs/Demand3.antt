@@ -24,7 +24,7 @@ use Rattle.compositor.specs.declared.Settings.{Settings}
 use Rattle.compositor.specs.Settings.{row_bytes, picture_bytes}
 use Rattle.compositor.specs.Order.{Stroke}
 use Rattle.compositor.specs.Picture.{strokes_on, row_after, picture_after, cleared}
-use Rattle.compositor.specs.Draw.{Tapes, stack_strokes, draw_call, cue_call, draw_picture}
+use Rattle.compositor.specs.Draw.{Tapes, tape_strokes, draw_call, cue_call, draw_picture}
 use Rattle.compositor.proofs.Painting.{strokes_length, strokes_append}
 use Rattle.compositor.proofs.ClearedPicture.{picture_drawn}
 use Rattle.compositor.proofs.AcceptedCalls.{cue_fits, cue_extra, cue_strokes, cue_again}
@@ -106,10 +106,10 @@ module _ (s : Settings) (d : Division) (ts : List Stroke) where
 abbrev entry_of : ℕ → ℕ → ℕ → Answer → Entry
 entry_of k n room answer = record { stripe = k; budget = n; room = room; answer = answer }
 
-module _ (s : Settings) (tapes : Tapes) (d : Division) (bytes : List ℕ) (ts : List Stroke) where
+module _ (s : Settings) (tape : Tapes) (d : Division) (bytes : List ℕ) (ts : List Stroke) where
   -- what each call keeps, where the caption has the strokes ts
   record Kept (entries : List Entry) (picture : List ℕ) (job : JobRecord) : Type 0 where
-    opens : (room : ℕ) → open_call s room (length bytes) tapes d ≡ refuse_if (ltb room least_room) 11 0 (accepted ts)
+    opens : (room : ℕ) → open_call s room (length bytes) tape d ≡ refuse_if (ltb room least_room) 11 0 (accepted ts)
     painted : picture ≡ image s d ts bytes (count ts entries)
     stripes : job.stripes ≡ stripes_with d
     counters : length job.counters ≡ most_stripes
@@ -117,11 +117,11 @@ module _ (s : Settings) (tapes : Tapes) (d : Division) (bytes : List ℕ) (ts : 
     past : (k : ℕ) → has_stripe d k ≡ false → counter_of job k ≡ 0
     due : AllDue ts d entries
 
-  kept_open : (room : ℕ) → open_call s room (length bytes) tapes d ≡ accepted ts → Kept [] (cleared s bytes) (new_record d)
+  kept_open : (room : ℕ) → open_call s room (length bytes) tape d ≡ accepted ts → Kept [] (cleared s bytes) (new_record d)
   unfolding count AllDue strokes_on
   kept_open room e =
       record {
-        opens = cue_again s room (length bytes) tapes (stripes_fault s d) e;
+        opens = cue_again s room (length bytes) tape (stripes_fault s d) e;
         painted =
             sym (rows_kept (strokes_on []) (row_bytes s) s.height 0 (cleared s bytes) (λ j row l. refl))
             ∙ picture_drawn s ts 0 bytes;
@@ -134,13 +134,13 @@ module _ (s : Settings) (tapes : Tapes) (d : Division) (bytes : List ℕ) (ts : 
 
   module _ {entries : List Entry} {picture : List ℕ} {job : JobRecord} (kept : Kept entries picture job) where
     fits : picture_bytes s ≤ length bytes
-    fits = cue_fits s least_room (length bytes) tapes (stripes_fault s d) (kept.opens least_room)
+    fits = cue_fits s least_room (length bytes) tape (stripes_fault s d) (kept.opens least_room)
 
-    caption : stack_strokes s tapes ≡ accepted ts
-    caption = cue_strokes s least_room (length bytes) tapes (stripes_fault s d) (kept.opens least_room)
+    caption : tape_strokes s tape ≡ accepted ts
+    caption = cue_strokes s least_room (length bytes) tape (stripes_fault s d) (kept.opens least_room)
 
     fit : stripes_fault s d ≡ 0
-    fit = cue_extra s least_room (length bytes) tapes (stripes_fault s d) (kept.opens least_room)
+    fit = cue_extra s least_room (length bytes) tape (stripes_fault s d) (kept.opens least_room)
 
     division : division_of job.stripes ≡ d
     division = ap division_of kept.stripes ∙ new_division s d fit
@@ -187,10 +187,10 @@ module _ (s : Settings) (tapes : Tapes) (d : Division) (bytes : List ℕ) (ts : 
       unfolding stripe_call
       stripe_comes = rw (division, counters_sound, kept.counted k)
 
-      work_comes : work_call s room (length picture) tapes job k n ≡ comes (ltb room least_room) (has_stripe d k)
+      work_comes : work_call s room (length picture) tape job k n ≡ comes (ltb room least_room) (has_stripe d k)
       unfolding work_call
       work_comes =
-          ap₂ (λ (size : ℕ) (e : Division). and_then (stripe_call job k n) (open_call s room size tapes e)) partly.same_size division
+          ap₂ (λ (size : ℕ) (e : Division). and_then (stripe_call job k n) (open_call s room size tape e)) partly.same_size division
           ∙ rw (kept.opens room) (by (ltb room least_room))
         where
           by : (short : Bool) → and_then (stripe_call job k n) (refuse_if short 11 0 (accepted ts)) ≡ comes short (has_stripe d k)
@@ -279,7 +279,7 @@ module _ (s : Settings) (tapes : Tapes) (d : Division) (bytes : List ℕ) (ts : 
             due = (rw (wide, there) (ap Answer.Accepted (omega (arith, count_here))), kept.due);
           }
 
-      kept_work : Keeps (work_call s room (length picture) tapes job k n)
+      kept_work : Keeps (work_call s room (length picture) tape job k n)
       kept_work = rw work_comes (by (ltb room least_room) (has_stripe d k) refl refl)
         where
           by : (short there : Bool) → ltb room least_room ≡ short → has_stripe d k ≡ there → Keeps (comes short there)
@@ -287,58 +287,58 @@ module _ (s : Settings) (tapes : Tapes) (d : Division) (bytes : List ℕ) (ts : 
           by false false p q = kept_refused 12 (rw (p, q))
           by false true p q = kept_accepted p q
 
-module _ (s : Settings) (tapes : Tapes) (d : Division) (bytes : List ℕ) where
-  all_kept : {entries : List Entry} {picture : List ℕ} {job : JobRecord} → History s tapes d bytes entries picture job
-      → (ts : List Stroke) × Kept s tapes d bytes ts entries picture job
+module _ (s : Settings) (tape : Tapes) (d : Division) (bytes : List ℕ) where
+  all_kept : {entries : List Entry} {picture : List ℕ} {job : JobRecord} → History s tape d bytes entries picture job
+      → (ts : List Stroke) × Kept s tape d bytes ts entries picture job
   all_kept (after_open {ws} total o e) =
       let found = accepted_is o e in
       let ts = found.given in (
         ts,
-        subst₂ (Kept s tapes d bytes ts [])
+        subst₂ (Kept s tape d bytes ts [])
             (sym (ap (λ (x : List ℕ × JobRecord). x.0) found.changes))
             (sym (ap (λ (x : List ℕ × JobRecord). x.1) found.changes))
-            (kept_open s tapes d bytes ts (length ws) found.means),
+            (kept_open s tape d bytes ts (length ws) found.means),
       )
   all_kept (after_work {entries} {ws} k n before w) =
       let found = all_kept before in
       let ts = found.0 in (
         ts,
-        subst₃ (λ (answer : Answer). Kept s tapes d bytes ts (entry_of k n (length ws) answer ∷ entries))
+        subst₃ (λ (answer : Answer). Kept s tape d bytes ts (entry_of k n (length ws) answer ∷ entries))
             (sym w.answers)
             (sym (ap (λ (x : List ℕ × JobRecord). x.0) w.changes))
             (sym (ap (λ (x : List ℕ × JobRecord). x.1) w.changes))
-            (kept_work s tapes d bytes ts found.1 k n (length ws)),
+            (kept_work s tape d bytes ts found.1 k n (length ws)),
       )
 
 -- a record has 64 end rows
-pub end_rows_long : (s : Settings) (tapes : Tapes) (d : Division) (bytes : List ℕ) {entries : List Entry} {picture : List ℕ} {job : JobRecord}
-    → History s tapes d bytes entries picture job → length job.stripes.end_rows ≡ most_stripes
-end_rows_long s tapes d bytes history =
-    let found = all_kept s tapes d bytes history in
-    ap (λ (x : Stripes). length x.end_rows) found.1.stripes ∙ kept_length d (stripes_few s d (fit s tapes d bytes found.0 found.1))
+pub end_rows_long : (s : Settings) (tape : Tapes) (d : Division) (bytes : List ℕ) {entries : List Entry} {picture : List ℕ} {job : JobRecord}
+    → History s tape d bytes entries picture job → length job.stripes.end_rows ≡ most_stripes
+end_rows_long s tape d bytes history =
+    let found = all_kept s tape d bytes history in
+    ap (λ (x : Stripes). length x.end_rows) found.1.stripes ∙ kept_length d (stripes_few s d (fit s tape d bytes found.0 found.1))
 
 -- DEMAND 3
 pub demand_3 : Demand3
-demand_3 s tapes d bytes entries picture job history =
-    let found = all_kept s tapes d bytes history in
+demand_3 s tape d bytes entries picture job history =
+    let found = all_kept s tape d bytes history in
     let ts = found.0 in
-    (ts, caption s tapes d bytes ts found.1, partly s tapes d bytes ts found.1)
+    (ts, caption s tape d bytes ts found.1, partly s tape d bytes ts found.1)
 
 -- ---- there is such a history
 
 pub possible : Possible
-possible s tapes d bytes ws ts e wishes = go wishes
+possible s tape d bytes ws ts e wishes = go wishes
   where
     first : JobAnswer
     first = record { answer = Answer.Accepted (length ts); job = new_record d }
 
     go : (wishes : List (ℕ × ℕ × List ℕ)) → (entries : List Entry) × (picture : List ℕ) × (job : JobRecord)
-        × History s tapes d bytes entries picture job
+        × History s tape d bytes entries picture job
         × (map asked entries ≡ map (λ w. (w.0, w.1, length w.2)) wishes)
     go [] = ([], cleared s bytes, new_record d, after_open {ws = ws} {ws' = ws} {r = first} (length ts) (accepts e refl refl tt) refl, refl)
     go (w ∷ rest) =
         let before = go rest in
-        let o = work_call s (length w.2) (length before.1) tapes before.2 w.0 w.1 in
+        let o = work_call s (length w.2) (length before.1) tape before.2 w.0 w.1 in
         let x = changed (stepped s before.2 w.0 before.1) (before.1, before.2) o in
         let r : JobAnswer = record { answer = answer_of (on_accepted length o); job = x.1 } in (
           entry_of w.0 w.1 (length w.2) r.answer ∷ before.0,
@@ -352,15 +352,15 @@ possible s tapes d bytes ws ts e wishes = go wishes
 
 -- after such calls, where each stripe's counter has come to T, the picture is what Draw leaves, with any workspace that
 -- is large enough
-pub finished : (s : Settings) (tapes : Tapes) (d : Division) (bytes : List ℕ) (entries : List Entry) (picture : List ℕ) (job : JobRecord)
-    → History s tapes d bytes entries picture job → (ts : List Stroke) → stack_strokes s tapes ≡ accepted ts
+pub finished : (s : Settings) (tape : Tapes) (d : Division) (bytes : List ℕ) (entries : List Entry) (picture : List ℕ) (job : JobRecord)
+    → History s tape d bytes entries picture job → (ts : List Stroke) → tape_strokes s tape ≡ accepted ts
     → ((k : ℕ) → has_stripe d k ≡ true → counter_of job k ≡ length ts) → (room : ℕ) → least_room ≤ room
-    → picture ≡ changed (draw_picture s bytes) bytes (draw_call s room (length bytes) tapes)
-finished s tapes d bytes entries picture job history ts e all room enough =
-    let found = all_kept s tapes d bytes history in
+    → picture ≡ changed (draw_picture s bytes) bytes (draw_call s room (length bytes) tape)
+finished s tape d bytes entries picture job history ts e all room enough =
+    let found = all_kept s tape d bytes history in
     let us = found.0 in
     let kept = found.1 in
-    let same : ts ≡ us = cc (caption s tapes d bytes us kept) in
-    let drawn : draw_call s room (length bytes) tapes ≡ accepted us =
-    ap (cue_call s room (length bytes) tapes) (sym (fit s tapes d bytes us kept)) ∙ kept.opens room ∙ rw (le-ltb room least_room enough) in
-    rw drawn (kept.painted ∙ image_all s d us (fit s tapes d bytes us kept) bytes (count us entries) (λ k there. sym (kept.counted k) ∙ all k there ∙ ap length same))
+    let same : ts ≡ us = cc (caption s tape d bytes us kept) in
+    let drawn : draw_call s room (length bytes) tape ≡ accepted us =
+    ap (cue_call s room (length bytes) tape) (sym (fit s tape d bytes us kept)) ∙ kept.opens room ∙ rw (le-ltb room least_room enough) in
+    rw drawn (kept.painted ∙ image_all s d us (fit s tape d bytes us kept) bytes (count us entries) (λ k there. sym (kept.counted k) ∙ all k there ∙ ap length same))

@@ -10,8 +10,7 @@ use lib.Dec.{eqb, ltb}
 use lib.ListN.{length, get_or, set, take, drop}
 use lib.Seq.{ext_get_or}
 use Rattle.tape.specs.Outcome.{Outcome, accepted, refused, refuse_if, and_then}
-use Rattle.tape.specs.Tape.{least_room}
-use Rattle.tape.specs.Stack.{ends_unfit, some_too_long}
+use Rattle.tape.specs.Tape.{most_bytes, least_room}
 use Rattle.wrap.specs.Lines.{up_from}
 use Rattle.compositor.specs.declared.Settings.{Settings}
 use Rattle.compositor.specs.Settings.{out_of_range, picture_bytes}
@@ -57,32 +56,30 @@ module _ (s : Settings) (d : Division) where
       by false false other = refl
 
 -- what comes to 13 comes to it in Work too
-module _ (s : Settings) (room size : ℕ) (tapes : Tapes) where
-  still_13 : (f : List Stroke → Outcome (List Stroke)) → and_then f (cue_call s room size tapes 13) ≡ cue_call s room size tapes 13
+module _ (s : Settings) (room size : ℕ) (tape : Tapes) where
+  still_13 : (f : List Stroke → Outcome (List Stroke)) → and_then f (cue_call s room size tape 13) ≡ cue_call s room size tape 13
   unfolding cue_call
-  still_13 f =
-      by (out_of_range s) (ltb size (picture_bytes s)) (ends_unfit (length tapes.tape_bytes) tapes.tape_ends) (some_too_long 0 tapes.tape_ends) (ltb room least_room)
+  still_13 f = by (out_of_range s) (ltb size (picture_bytes s)) (ltb most_bytes (length tape)) (ltb room least_room)
     where
-      by : (a b c d e : Bool) → and_then f (refuse_if a 8 0 (refuse_if b 9 0 (refuse_if c 18 0 (refuse_if d 10 0 (refuse_if e 11 0 (refused 13 0))))))
-          ≡ refuse_if a 8 0 (refuse_if b 9 0 (refuse_if c 18 0 (refuse_if d 10 0 (refuse_if e 11 0 (refused 13 0)))))
-      by true b c d e = refl
-      by false true c d e = refl
-      by false false true d e = refl
-      by false false false true e = refl
-      by false false false false true = refl
-      by false false false false false = refl
+      by : (a b c d : Bool) → and_then f (refuse_if a 8 0 (refuse_if b 9 0 (refuse_if c 10 0 (refuse_if d 11 0 (refused 13 0)))))
+          ≡ refuse_if a 8 0 (refuse_if b 9 0 (refuse_if c 10 0 (refuse_if d 11 0 (refused 13 0))))
+      by true b c d = refl
+      by false true c d = refl
+      by false false true d = refl
+      by false false false true = refl
+      by false false false false = refl
 
-  refused_ends_lem : RefusedEnds s room size tapes
+  refused_ends_lem : RefusedEnds s room size tape
   unfolding work_call
   refused_ends_lem =
       record {
         admitted = admitted s;
         keeping = keeping s;
         breaking = breaking s;
-        as_draw = λ d r. ap (cue_call s room size tapes) (admitted s d r);
-        unopened = λ d broken. ap (cue_call s room size tapes) (breaking s d broken);
+        as_draw = λ d r. ap (cue_call s room size tape) (admitted s d r);
+        unopened = λ d broken. ap (cue_call s room size tape) (breaking s d broken);
         unworked =
-            λ job k n broken. ap (λ (e : ℕ). and_then (stripe_call job k n) (cue_call s room size tapes e)) (breaking s (division_of job.stripes) broken)
+            λ job k n broken. ap (λ (e : ℕ). and_then (stripe_call job k n) (cue_call s room size tape e)) (breaking s (division_of job.stripes) broken)
             ∙ still_13 (stripe_call job k n);
       }
 
@@ -115,11 +112,11 @@ unread s a b same counters =
     record {
       same_division = d;
       same_call =
-          λ room size tapes k n. ap₂
+          λ room size tape k n. ap₂
           (λ (e : Division) (cs : List ℕ).
           and_then
           (λ ts. refuse_if (counters_unsound e (length ts) 0 cs) 14 0 (refuse_if (not (has_stripe e k)) 12 0 (accepted (take n (drop (get_or cs k 0) ts)))))
-          (open_call s room size tapes e))
+          (open_call s room size tape e))
           d counters;
       same_picture = λ k bytes done. ap (λ (e : Division). on_stripe s e k done bytes) d;
       same_counters = λ k bytes done. ap (λ (cs : List ℕ). set cs k (get_or cs k 0 + length done)) counters;

@@ -20,15 +20,15 @@ pub record Rising (s : Settings) (d : Division) : Type 0 where
   pub reaches : first_row d (length d) ≡ s.height
 
 -- Ends that keep the rule are admitted, and no others. Open then comes to what Draw comes to, which is never 13; else
--- it comes to 13, but for 8, 9, 18, 10 and 11, which come before it, and so does Work with such a record.
-pub record RefusedEnds (s : Settings) (room size : ℕ) (tapes : Tapes) : Type 0 where
+-- it comes to 13, but for 8, 9, 10 and 11, which come before it, and so does Work with such a record.
+pub record RefusedEnds (s : Settings) (room size : ℕ) (tape : Tapes) : Type 0 where
   pub admitted : (d : Division) → Rising s d → stripes_fault s d ≡ 0
   pub keeping : (d : Division) → stripes_fault s d ≡ 0 → Rising s d
   pub breaking : (d : Division) → (Rising s d → ⊥) → stripes_fault s d ≡ 13
-  pub as_draw : (d : Division) → Rising s d → open_call s room size tapes d ≡ draw_call s room size tapes
-  pub unopened : (d : Division) → (Rising s d → ⊥) → open_call s room size tapes d ≡ cue_call s room size tapes 13
+  pub as_draw : (d : Division) → Rising s d → open_call s room size tape d ≡ draw_call s room size tape
+  pub unopened : (d : Division) → (Rising s d → ⊥) → open_call s room size tape d ≡ cue_call s room size tape 13
   pub unworked : (job : JobRecord) (k n : ℕ) → (Rising s (division_of job.stripes) → ⊥)
-      → work_call s room size tapes job k n ≡ cue_call s room size tapes 13
+      → work_call s room size tape job k n ≡ cue_call s room size tape 13
 
 -- ---- where rows lie
 
@@ -50,7 +50,7 @@ pub record SameUsed (a b : Stripes) : Type 0 where
 -- alone; it leaves the same pictures and counters, and hands the stripes back as they were.
 pub record UnreadEnds (s : Settings) (a b : JobRecord) : Type 0 where
   pub same_division : division_of a.stripes ≡ division_of b.stripes
-  pub same_call : (room size : ℕ) (tapes : Tapes) (k n : ℕ) → work_call s room size tapes a k n ≡ work_call s room size tapes b k n
+  pub same_call : (room size : ℕ) (tape : Tapes) (k n : ℕ) → work_call s room size tape a k n ≡ work_call s room size tape b k n
   pub same_picture : (k : ℕ) (bytes : List ℕ) (done : List Stroke) → (stepped s a k bytes done).0 ≡ (stepped s b k bytes done).0
   pub same_counters : (k : ℕ) (bytes : List ℕ) (done : List Stroke)
       → (stepped s a k bytes done).1.counters ≡ (stepped s b k bytes done).1.counters
@@ -68,7 +68,7 @@ pub record EqualStripes (s : Settings) (h : ℕ) : Type 0 where
 -- ---- the claim
 
 pub record StripesByEnds : Type 0 where
-  pub refused_ends : (s : Settings) (room size : ℕ) (tapes : Tapes) → RefusedEnds s room size tapes
+  pub refused_ends : (s : Settings) (room size : ℕ) (tape : Tapes) → RefusedEnds s room size tape
   pub stripe_rows : (s : Settings) (d : Division) → stripes_fault s d ≡ 0 → StripeRows s d
   pub unread_ends : (s : Settings) (a b : JobRecord) → SameUsed a.stripes b.stripes → a.counters ≡ b.counters → UnreadEnds s a b
   pub equal_stripes : (s : Settings) (h : ℕ) → EqualStripes s h

@@ -9,7 +9,7 @@ use Rattle.compositor.specs.declared.Settings.{Settings}
 use Rattle.compositor.specs.Settings.{row_bytes, picture_bytes}
 use Rattle.compositor.specs.Order.{Stroke}
 use Rattle.compositor.specs.Picture.{row_after}
-use Rattle.compositor.specs.Draw.{Tapes, stack_strokes}
+use Rattle.compositor.specs.Draw.{Tapes, tape_strokes}
 use Rattle.job.specs.declared.JobRecord.{JobRecord}
 use Rattle.job.specs.declared.JobAnswer.{JobAnswer}
 use Rattle.job.specs.Stripes.{Division, most_stripes, stripe_of, has_stripe, stripes_with, counter_of}
@@ -28,13 +28,13 @@ pub record Entry : Type 0 where
 
 -- An accepted Open, with a division d, on a picture's buffer that held `bytes`, and then calls of Work, the latest
 -- first, with the picture's buffer and the record as they are after them. Each Work gets both as the call before it
--- left them, and Open's settings and tapes; its stripe, its budget and its workspace are any.
-pub data History (s : Settings) (tapes : Tapes) (d : Division) (bytes : List ℕ) : List Entry → List ℕ → JobRecord → Type 0 where
-  after_open : {ws ws' picture : List ℕ} {r : JobAnswer} (total : ℕ) → Opened s tapes ws ws' bytes picture d r → r.answer ≡ Answer.Accepted total
-      → History s tapes d bytes [] picture r.job
+-- left them, and Open's settings and tape; its stripe, its budget and its workspace are any.
+pub data History (s : Settings) (tape : Tapes) (d : Division) (bytes : List ℕ) : List Entry → List ℕ → JobRecord → Type 0 where
+  after_open : {ws ws' picture : List ℕ} {r : JobAnswer} (total : ℕ) → Opened s tape ws ws' bytes picture d r → r.answer ≡ Answer.Accepted total
+      → History s tape d bytes [] picture r.job
   after_work : {entries : List Entry} {ws ws' picture picture' : List ℕ} {job : JobRecord} {r : JobAnswer} (k n : ℕ)
-      → History s tapes d bytes entries picture job → Worked s tapes ws ws' picture picture' job k n r
-      → History s tapes d bytes (record { stripe = k; budget = n; room = length ws; answer = r.answer } ∷ entries) picture' r.job
+      → History s tape d bytes entries picture job → Worked s tape ws ws' picture picture' job k n r
+      → History s tape d bytes (record { stripe = k; budget = n; room = length ws; answer = r.answer } ∷ entries) picture' r.job
 
 -- ---- what its calls count
 
@@ -72,7 +72,7 @@ AllDue ts d (entry ∷ before) = (entry.answer ≡ due_of ts d entry before) × 
 abbrev pub row_of : Settings → List ℕ → ℕ → List ℕ
 row_of s bytes y = take (row_bytes s) (drop (y * row_bytes s) bytes)
 
--- After such calls, where the stack has the strokes ts: each row holds what the first c strokes leave on a row of
+-- After such calls, where the caption has the strokes ts: each row holds what the first c strokes leave on a row of
 -- zeros, c that of its stripe, which is the smaller of T and the sum of the budgets accepted for it; the bytes after
 -- the picture are as they were; the record has the division, 0 in the end rows that it does not use, and 64
 -- counters, that of stripe k its c, which is 0 past the last stripe; and each call answered what was due.
@@ -96,9 +96,9 @@ pub record PartlyDrawn
 
 abbrev pub Demand3 : Type 0
 Demand3 =
-    (s : Settings) (tapes : Tapes) (d : Division) (bytes : List ℕ) (entries : List Entry) (picture : List ℕ) (job : JobRecord)
-    → History s tapes d bytes entries picture job
-    → (ts : List Stroke) × (stack_strokes s tapes ≡ accepted ts) × PartlyDrawn s ts d bytes entries picture job
+    (s : Settings) (tape : Tapes) (d : Division) (bytes : List ℕ) (entries : List Entry) (picture : List ℕ) (job : JobRecord)
+    → History s tape d bytes entries picture job
+    → (ts : List Stroke) × (tape_strokes s tape ≡ accepted ts) × PartlyDrawn s ts d bytes entries picture job
 
 -- what is asked of a call: its stripe, its budget, and how many bytes its workspace has
 abbrev pub asked : Entry → ℕ × ℕ × ℕ
@@ -107,9 +107,9 @@ asked entry = (entry.stripe, entry.budget, entry.room)
 -- Where an Open is accepted there is a history after it of every list of stripes, budgets and workspaces.
 abbrev pub Possible : Type 0
 Possible =
-    (s : Settings) (tapes : Tapes) (d : Division) (bytes ws : List ℕ) (ts : List Stroke)
-    → open_call s (length ws) (length bytes) tapes d ≡ accepted ts
+    (s : Settings) (tape : Tapes) (d : Division) (bytes ws : List ℕ) (ts : List Stroke)
+    → open_call s (length ws) (length bytes) tape d ≡ accepted ts
     → (wishes : List (ℕ × ℕ × List ℕ))
     → (entries : List Entry) × (picture : List ℕ) × (job : JobRecord)
-    × History s tapes d bytes entries picture job
+    × History s tape d bytes entries picture job
     × (map asked entries ≡ map (λ w. (w.0, w.1, length w.2)) wishes)

@@ -80,7 +80,7 @@ counter_of job k = get_or job.counters k 0
 unfoldable pub with_counter : JobRecord → ℕ → ℕ → JobRecord
 with_counter job k c = record { stripes = job.stripes; counters = set job.counters k c }
 
--- 14: of counters from stripe k on, one is over `total`, the number T of the stack's strokes, or is not 0 past the
+-- 14: of counters from stripe k on, one is over `total`, the number T of the caption's strokes, or is not 0 past the
 -- last stripe
 unfoldable pub counters_unsound : Division → ℕ → ℕ → List ℕ → Bool
 counters_unsound d total k [] = false

@@ -13,10 +13,10 @@ use Rattle.job.specs.Stripes.{Division, stripe_of, has_stripe, stripes_fault, di
 -- ---- Open
 
 -- What a call of Open comes to, with a workspace of `room` bytes, a picture's buffer of `size` and this division: what
--- every call that draws comes to, with 13 before the tapes' faults. Accepted, it has the stack's strokes, and answers
+-- every call that draws comes to, with 13 before the tape's faults. Accepted, it has the caption's strokes, and answers
 -- how many they are.
 abbrev pub open_call : Settings → ℕ → ℕ → Tapes → Division → Outcome (List Stroke)
-open_call s room size tapes d = cue_call s room size tapes (stripes_fault s d)
+open_call s room size tape d = cue_call s room size tape (stripes_fault s d)
 
 -- what an accepted Open leaves, where the picture's buffer held `bytes`: the picture is zeroed, and the job has done
 -- nothing yet
@@ -25,7 +25,7 @@ opening s d bytes ts = (cleared s bytes, new_record d)
 
 -- ---- a step on a stripe
 
--- the strokes that a step on stripe k with budget n does, where the stack has the strokes ts: those from number c on,
+-- the strokes that a step on stripe k with budget n does, where the caption has the strokes ts: those from number c on,
 -- c the stripe's counter, n of them, or as many as are left, so that they are min(n, T − c)
 abbrev pub step_strokes : JobRecord → ℕ → ℕ → List Stroke → List Stroke
 step_strokes job k n ts = take n (drop (counter_of job k) ts)
@@ -42,14 +42,14 @@ stepped s job k bytes done = (on_stripe s (division_of job.stripes) k done bytes
 
 -- ---- Work
 
--- the test of the record, 14, where the stack has the strokes ts, and the test of the stripe, 12
+-- the test of the record, 14, where the caption has the strokes ts, and the test of the stripe, 12
 abbrev pub refuse_record : {A : Type 0} → JobRecord → List Stroke → Outcome A → Outcome A
 refuse_record job ts o = refuse_if (counters_unsound (division_of job.stripes) (length ts) 0 job.counters) 14 0 o
 
 abbrev pub refuse_stripe : {A : Type 0} → JobRecord → ℕ → Outcome A → Outcome A
 refuse_stripe job k o = refuse_if (not (has_stripe (division_of job.stripes) k)) 12 0 o
 
--- what Work on stripe k with budget n comes to, where the stack has the strokes ts: 14, 12, or the strokes that a
+-- what Work on stripe k with budget n comes to, where the caption has the strokes ts: 14, 12, or the strokes that a
 -- step does
 unfoldable pub stripe_call : JobRecord → ℕ → ℕ → List Stroke → Outcome (List Stroke)
 stripe_call job k n ts = refuse_record job ts (refuse_stripe job k (accepted (step_strokes job k n ts)))
@@ -57,4 +57,4 @@ stripe_call job k n ts = refuse_record job ts (refuse_stripe job k (accepted (st
 -- What a call of Work comes to: what Open of the record's division is refused by, and then these. It answers how many
 -- strokes it does.
 unfoldable pub work_call : Settings → ℕ → ℕ → Tapes → JobRecord → ℕ → ℕ → Outcome (List Stroke)
-work_call s room size tapes job k n = and_then (stripe_call job k n) (open_call s room size tapes (division_of job.stripes))
+work_call s room size tape job k n = and_then (stripe_call job k n) (open_call s room size tape (division_of job.stripes))

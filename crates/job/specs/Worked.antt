@@ -10,12 +10,12 @@ use Rattle.job.specs.Stripes.{Division, no_record}
 use Rattle.job.specs.Work.{open_call, opening, work_call, stepped}
 
 -- Open with a division d: the workspace and the picture's buffer before and after, and what it gave: how many strokes
--- the stack has, and a record, which is all zeros where Open is refused
+-- the caption has, and a record, which is all zeros where Open is refused
 abbrev pub Opened : Settings → Tapes → List ℕ → List ℕ → List ℕ → List ℕ → Division → JobAnswer → Type 0
-Opened s tapes ws ws' picture picture' d r =
-    Came (open_call s (length ws) (length picture) tapes d) length (opening s d picture) IsFree (picture, no_record) (picture', r.job) ws ws' r.answer
+Opened s tape ws ws' picture picture' d r =
+    Came (open_call s (length ws) (length picture) tape d) length (opening s d picture) IsFree (picture, no_record) (picture', r.job) ws ws' r.answer
 
 -- Work on stripe k with budget n: how many strokes it did, and the record
 abbrev pub Worked : Settings → Tapes → List ℕ → List ℕ → List ℕ → List ℕ → JobRecord → ℕ → ℕ → JobAnswer → Type 0
-Worked s tapes ws ws' picture picture' job k n r =
-    Came (work_call s (length ws) (length picture) tapes job k n) length (stepped s job k picture) IsFree (picture, job) (picture', r.job) ws ws' r.answer
+Worked s tape ws ws' picture picture' job k n r =
+    Came (work_call s (length ws) (length picture) tape job k n) length (stepped s job k picture) IsFree (picture, job) (picture', r.job) ws ws' r.answer

@@ -5,16 +5,14 @@ mod stripe;
 
 ghost use Rattle.std.specs.Prelude.{◌≡◌, ◌≤◌, min, length};
 ghost use Rattle.tape.specs.Outcome.{accepted};
-ghost use Rattle.tape.specs.Lent.{handed};
-ghost use Rattle.compositor.specs.Ready.{all_strokes};
+ghost use Rattle.compositor.specs.Read.{strokes_in};
 ghost use Rattle.job.specs.Stripes.{most_stripes, division_of, stripes_with, new_record, no_record, counters_unsound};
 ghost use Rattle.job.specs.Work.{step_strokes, stripe_call};
 ghost use Rattle.job.specs.Worked.{Opened, Worked};
 ghost use Rattle.job.specs.Ready.{Workable, Steppable, Did};
 
-use compositor::Settings;
-use compositor::stack::Stacked;
 use compositor::strokes::Window;
+use compositor::{Cue, Settings};
 use tape::Answer;
 
 // How a picture is divided into stripes, from the top: how many there are, and the end row of each,
@@ -86,7 +84,7 @@ impl JobRecord {
         }
     }
 
-    // Whether a counter is over the stack's strokes, or not 0 past the last stripe.
+    // Whether a counter is over the caption's strokes, or not 0 past the last stripe.
     fn is_unsound(self, total: usize) -> bool
         requires { length (division_of self.stripes) ≤ most_stripes }
         ensures { result ≡ counters_unsound (division_of self.stripes) total 0 self.counters }
@@ -106,23 +104,20 @@ impl JobRecord {
 }
 
 // The call Open: zeroes the picture, and gives the record of a job that has done nothing yet. The
-// answer is how many strokes the stack has. A refusal leaves the picture, and its record is zeros.
+// answer is how many strokes the caption has. A refusal leaves the picture, and its record is zeros.
 pub fn open(
     s: Settings,
-    tapes: &[u8],
-    ends: &[u32],
+    tape: &[u8],
     ws: &mut [u8],
     picture: &mut [u8],
     stripes: Stripes,
 ) -> JobAnswer
-    ensures { Opened s (handed tapes.now ends.now) ws.old ws.new
+    ensures { Opened s tape.now ws.old ws.new
         picture.old picture.new (division_of stripes) result }
 {
     let fault = stripe::fault(s, stripes);
-    let read = compositor::read_stack(s, tapes, ends, ws, picture.len(), fault);
-    let answer = read.answer;
-    match answer {
-        Answer::Accepted(total) => {
+    match compositor::read_cue(s, tape, ws, picture.len(), fault) {
+        Cue::Laid(_, total) => {
             let size = s.picture_bytes();
             compositor::clear(picture, size);
             JobAnswer {
@@ -130,7 +125,7 @@ pub fn open(
                 job: JobRecord::new(stripes),
             }
         }
-        Answer::Refused(number, place) => JobAnswer {
+        Cue::Refused(number, place) => JobAnswer {
             answer: Answer::Refused(number, place),
             job: JobRecord::none(),
         },
@@ -147,19 +142,17 @@ fn least(a: usize, b: usize) -> usize
 // them.
 fn step(
     s: Settings,
-    tapes: &[u8],
-    ends: &[u32],
-    ws: &mut [u8],
-    stacked: Stacked,
+    ws: &[u8],
+    lines: usize,
     total: usize,
     picture: &mut [u8],
     job: JobRecord,
     k: usize,
     budget: u32,
 ) -> JobAnswer
-    requires { Steppable s (handed tapes.now ends.now) ws.old (length picture.old) job k stacked total }
-    ensures { Did s job k (accepted (step_strokes job k budget (all_strokes s (handed tapes.now ends.now))))
-        ws.old picture.old picture.new result }
+    requires { Steppable s ws.now (length picture.old) job k lines total }
+    ensures { Did s job k (accepted (step_strokes job k budget (strokes_in s ws.now lines)))
+        ws.now picture.old picture.new result }
 {
     let done = job.counters[k] as usize;
     let m = least(budget as usize, total - done);
@@ -168,7 +161,7 @@ fn step(
         to: done + m,
     };
     let stripes = job.stripes;
-    stripe::draw_stripe(s, tapes, ends, ws, stacked, picture, stripes, k, window);
+    stripe::draw_stripe(s, ws, lines, picture, stripes, k, window);
     let mut after = job;
     after.counters[k] = (done + m) as u32;
     JobAnswer {
@@ -177,22 +170,21 @@ fn step(
     }
 }
 
-// Work on a stack that was read: the test of the record, the test of the stripe, and a step.
+// Work where the caption lies in the workspace: the test of the record, the test of the stripe, and a
+// step.
 fn work_laid(
     s: Settings,
-    tapes: &[u8],
-    ends: &[u32],
-    ws: &mut [u8],
-    stacked: Stacked,
+    ws: &[u8],
+    lines: usize,
     total: usize,
     picture: &mut [u8],
     job: JobRecord,
     stripe: u32,
     budget: u32,
 ) -> JobAnswer
-    requires { Workable s (handed tapes.now ends.now) ws.old (length picture.old) job stacked total }
-    ensures { Did s job stripe (stripe_call job stripe budget (all_strokes s (handed tapes.now ends.now)))
-        ws.old picture.old picture.new result }
+    requires { Workable s ws.now (length picture.old) job lines total }
+    ensures { Did s job stripe (stripe_call job stripe budget (strokes_in s ws.now lines))
+        ws.now picture.old picture.new result }
 {
     if job.is_unsound(total) {
         return JobAnswer {
@@ -209,7 +201,7 @@ fn work_laid(
             job,
         };
     }
-    step(s, tapes, ends, ws, stacked, total, picture, job, k, budget)
+    step(s, ws, lines, total, picture, job, k, budget)
 }
 
 // The call Work: does as many strokes as the budget has, or as are left, on the rows of a stripe, and
@@ -217,29 +209,21 @@ fn work_laid(
 // and the record.
 pub fn work(
     s: Settings,
-    tapes: &[u8],
-    ends: &[u32],
+    tape: &[u8],
     ws: &mut [u8],
     picture: &mut [u8],
     job: JobRecord,
     stripe: u32,
     budget: u32,
 ) -> JobAnswer
-    ensures { Worked s (handed tapes.now ends.now) ws.old ws.new
+    ensures { Worked s tape.now ws.old ws.new
         picture.old picture.new job stripe budget result }
 {
     let stripes = job.stripes;
     let fault = stripe::fault(s, stripes);
-    let read = compositor::read_stack(s, tapes, ends, ws, picture.len(), fault);
-    let stacked = read.stacked;
-    let answer = read.answer;
-    match answer {
-        Answer::Accepted(total) => {
-            work_laid(
-                s, tapes, ends, ws, stacked, total, picture, job, stripe, budget,
-            )
-        }
-        Answer::Refused(number, place) => JobAnswer {
+    match compositor::read_cue(s, tape, ws, picture.len(), fault) {
+        Cue::Laid(lines, total) => work_laid(s, ws, lines, total, picture, job, stripe, budget),
+        Cue::Refused(number, place) => JobAnswer {
             answer: Answer::Refused(number, place),
             job,
         },

@@ -1,16 +1,15 @@
 // Whether stripes fit a picture, and the rows of one.
 ghost use Rattle.std.specs.Prelude.{◌≡◌, true, cond, ◌≤◌, ltb, length};
-ghost use Rattle.tape.specs.Lent.{handed};
 ghost use Rattle.compositor.specs.Settings.{picture_bytes};
+ghost use Rattle.compositor.specs.Read.{strokes_in};
 ghost use Rattle.compositor.specs.Painting.{cut};
-ghost use Rattle.compositor.specs.Ready.{InRange, all_strokes, StackLaid};
+ghost use Rattle.compositor.specs.Ready.{InRange, Lined};
 ghost use Rattle.job.specs.Stripes.{first_row, has_stripe, stripes_fault, division_of};
 ghost use Rattle.job.specs.Work.{on_stripe};
 
 use crate::Stripes;
-use compositor::stack::Stacked;
 use compositor::strokes::Window;
-use compositor::{Settings, stack};
+use compositor::{Settings, strokes};
 use font::Rows;
 
 pub const MOST_STRIPES: usize = 64;
@@ -55,23 +54,21 @@ fn first_row(stripes: Stripes, k: usize) -> usize
     stripes.end_rows[k - 1] as usize
 }
 
-// Draws strokes of a stack that was read on the rows of stripe k. The rows are lent, so that no other
-// can be reached.
+// Draws strokes of the caption that lies in the workspace on the rows of stripe k. The rows are lent,
+// so that no other can be reached.
 pub fn draw_stripe(
     s: Settings,
-    tapes: &[u8],
-    ends: &[u32],
-    ws: &mut [u8],
-    stacked: Stacked,
+    ws: &[u8],
+    lines: usize,
     picture: &mut [u8],
     stripes: Stripes,
     k: usize,
     window: Window,
 )
-    requires { InRange s × (picture_bytes s ≤ length picture.old) × StackLaid s (handed tapes.now ends.now) ws.old stacked
+    requires { InRange s × (picture_bytes s ≤ length picture.old) × Lined ws.now lines
         × (stripes_fault s (division_of stripes) ≡ 0) × (has_stripe (division_of stripes) k ≡ true) }
     ensures { picture.new
-        ≡ on_stripe s (division_of stripes) k (cut window (all_strokes s (handed tapes.now ends.now))) picture.old }
+        ≡ on_stripe s (division_of stripes) k (cut window (strokes_in s ws.now lines)) picture.old }
 {
     let first = first_row(stripes, k);
     let end = stripes.end_rows[k] as usize;
@@ -84,14 +81,5 @@ pub fn draw_stripe(
         count,
         first,
     };
-    stack::draw_stack(
-        &mut picture[from..to],
-        rows,
-        s,
-        tapes,
-        ends,
-        ws,
-        stacked,
-        window,
-    );
+    strokes::draw_lines(&mut picture[from..to], rows, ws, s, lines, window);
 }

@@ -78,16 +78,8 @@ fn write_answer(answer: Answer, picture: &[u8]) -> bool {
     }
 }
 
-// The end of a tape that is a stack by itself; a longer one than an entry can have is then refused.
-fn only_end(tape: &[u8]) -> [u32; 1] {
-    if 65535 < tape.len() {
-        return [0];
-    }
-    [tape.len() as u32]
-}
-
-fn draw(s: Settings, tape: &[u8], ends: &[u32], workspace: &mut [u8], picture: &mut [u8]) -> bool {
-    let answer = compositor::render_into(s, tape, ends, workspace, picture);
+fn draw(s: Settings, tape: &[u8], workspace: &mut [u8], picture: &mut [u8]) -> bool {
+    let answer = compositor::render_into(s, tape, workspace, picture);
     write_answer(answer, picture)
 }
 
@@ -96,7 +88,6 @@ fn work(
     s: Settings,
     works: &[u8],
     tape: &[u8],
-    ends: &[u32],
     workspace: &mut [u8],
     picture: &mut [u8],
     opened: JobRecord,
@@ -106,7 +97,7 @@ fn work(
     while WORK <= works.len() - at {
         let stripe = works[at] as u32;
         let budget = long_at(works, at + 1);
-        let done = job::work(s, tape, ends, workspace, picture, record, stripe, budget);
+        let done = job::work(s, tape, workspace, picture, record, stripe, budget);
         let answer = done.answer;
         if !write_answer(answer, picture) {
             return false;
@@ -123,18 +114,17 @@ fn open(
     stripes: Stripes,
     works: &[u8],
     tape: &[u8],
-    ends: &[u32],
     workspace: &mut [u8],
     picture: &mut [u8],
 ) -> bool {
-    let opened = job::open(s, tape, ends, workspace, picture, stripes);
+    let opened = job::open(s, tape, workspace, picture, stripes);
     let answer = opened.answer;
     if !write_answer(answer, picture) {
         return false;
     }
     let record = opened.job;
     match answer {
-        Answer::Accepted(_) => work(s, works, tape, ends, workspace, picture, record),
+        Answer::Accepted(_) => work(s, works, tape, workspace, picture, record),
         Answer::Refused(_, _) => true,
     }
 }
@@ -194,16 +184,14 @@ fn print_calls(
     let size = report::number_at(entry, 40);
     fill(picture, size);
     let tape = &entry[start..entry.len()];
-    let ends = only_end(tape);
     if report::number_at(entry, 38) == 0 {
-        return draw(s, tape, &ends, workspace, &mut picture[0..size]);
+        return draw(s, tape, workspace, &mut picture[0..size]);
     }
     open(
         s,
         stripes(entry, works),
         &entry[works..start],
         tape,
-        &ends,
         workspace,
         &mut picture[0..size],
     )

@@ -24,6 +24,13 @@ pub record Fits (tape : List ℕ) (room : ℕ) (ls : List Letter) : Type 0 where
   pub short : length tape ≤ most_bytes
   pub enough : least_room ≤ room
 
+pub tape_bounded : (s : Style) (tape : List ℕ) → length tape ≤ most_bytes → Bounded (λ ls. length ls ≤ most_letters) 7 (tape_letters s tape)
+tape_bounded s tape short = go (tape_letters s tape) (letters_bounded s tape)
+  where
+    go : (o : Outcome (List Letter)) → Bounds.Bounded (length tape) o → Bounded (λ ls. length ls ≤ most_letters) 7 o
+    go (accepted ls) b = b
+    go (refused number place) b = let on = b.on in record { least = b.least; greatest = b.most; near = omega arith }
+
 pub fits : (s : Style) (room : ℕ) (tape : List ℕ) → Bounded (Fits tape room) 11 (read_call s room tape)
 unfolding read_call
 fits s room tape =

@@ -10,7 +10,7 @@ use lib.Dec.{lit≤, eqb, leb}
 use Rattle.tape.specs.declared.Answer.{Answer}
 use Rattle.tape.specs.Outcome.{Outcome, accepted, refused, refuse_if, on_accepted}
 use Rattle.tape.specs.Call.{answer_of, changed, keeps_workspace, Workspace, Came}
-use Rattle.tape.specs.Lent.{most_place}
+use Rattle.tape.specs.Tape.{most_bytes}
 use Rattle.tape.specs.Packed.{packed, unpacked}
 use Rattle.tape.specs.Near.{Near}
 
@@ -77,19 +77,18 @@ module _ {A X : Type 0} {o : Outcome A} {tally : A → ℕ} {f : A → X} {Holds
 -- refusals that leave the workspace are none of the tape's
 pub keeps_least : (number : ℕ) → keeps_workspace number ≡ true → 8 ≤ number
 unfolding keeps_workspace
-keeps_least number e = by (leb 8 number) (leb number 11) (eqb number 13) (eqb number 18) refl refl refl e
+keeps_least number e = by (leb 8 number) (leb number 11) (eqb number 13) refl refl e
   where
-    by : (a b c d : Bool) → leb 8 number ≡ a → eqb number 13 ≡ c → eqb number 18 ≡ d → (a && b || (c || d)) ≡ true → 8 ≤ number
-    by true b c d p q r e = leb-true 8 number p
-    by false b true d p q r e = let is = eqb-true number 13 q in omega arith
-    by false b false true p q r e = let is = eqb-true number 18 r in omega arith
-    by false b false false p q r e = absurd (true≢false (sym e))
+    by : (a b c : Bool) → leb 8 number ≡ a → eqb number 13 ≡ c → (a && b || c) ≡ true → 8 ≤ number
+    by true b c p q e = leb-true 8 number p
+    by false b true p q e = let is = eqb-true number 13 q in omega arith
+    by false b false p q e = absurd (true≢false (sym e))
 
--- a refusal's number is one of 1 to `most`, and its place as far as the tapes of a stack may go
+-- a refusal's number is one of 1 to `most`, and its place as far as a tape may go
 pub record Told (most number place : ℕ) : Type 0 where
   pub least : 1 ≤ number
   pub greatest : number ≤ most
-  pub near : place ≤ most_place
+  pub near : place ≤ most_bytes
 
 abbrev pub Bounded : {A : Type 0} → (A → Type 0) → ℕ → Outcome A → Type 0
 Bounded P most (accepted a) = P a

@@ -16,7 +16,7 @@ use Rattle.tape.proofs.Calls.{Bounded, refuse_bounded, weaken, accepted_is, Pack
 use Rattle.wrap.specs.Wrap.{Caption, most_columns, caption_of, wrap_call}
 use Rattle.wrap.specs.Laid.{most_lines}
 use Rattle.wrap.specs.Wrapped.{Wrapped}
-use Rattle.wrap.proofs.FewLines.{few_lines_lem}
+use Rattle.wrap.proofs.FewLines.{few_lines}
 use Rattle.wrap.proofs.CallWrap.{or_none, white}
 
 -- a caption that was wrapped in a workspace of `room` bytes
@@ -31,7 +31,7 @@ wrap_bounded limit room tape =
     (λ e. own (ltb-false limit 1 (or_none (ltb limit 1) (ltb most_columns limit) e).0) (read_call white room tape) (fits white room tape))
   where
     own : 1 ≤ limit → (o : Outcome (List Letter)) → Bounded (Fits tape room) 11 o → Bounded (Small room) 11 (on_accepted (caption_of limit) o)
-    own one (accepted ls) f = let n = few_lines_lem ls limit one in let few = f.few in record { few = omega arith; enough = f.enough }
+    own one (accepted ls) f = let n = few_lines ls limit one in let few = f.few in record { few = omega arith; enough = f.enough }
     own one (refused number place) f = f
 
 -- so many lines were made

@@ -193,9 +193,9 @@ module _ (ls : List Letter) where
           (λ _. record { some = omega arith; all = omega arith })
           (λ _. record { some = omega arith; all = omega arith })
 
-  pub few_lines_lem : (L : ℕ) → 1 ≤ L → length (wrap_runs ls L) ≤ length ls
+  pub few_lines : (L : ℕ) → 1 ≤ L → length (wrap_runs ls L) ≤ length ls
   unfolding wrap_runs
-  few_lines_lem L one = by (logical_lines ls all) (logical_cut all)
+  few_lines L one = by (logical_lines ls all) (logical_cut all)
     where
       all : Line
       all = up_from 0 (length ls)

@@ -25,7 +25,7 @@ inked_from = 57344
 abbrev pub two_byte_numbers : ℕ
 two_byte_numbers = 65536
 
--- the most lines of a caption: that there are no more is `few_lines_lem` of proofs/FewLines.antt
+-- the most lines of a caption: that there are no more is `few_lines` of proofs/FewLines.antt
 abbrev pub most_lines : ℕ
 most_lines = most_letters
 

@@ -1,17 +1,17 @@
 //! The calls Open and Work.
 
-use crate::refusal::{Cause, Result};
-use crate::{Record, Settings, Stack, Stripes, Workspace, raw, stripes};
+use crate::refusal::{self, Cause, Result};
+use crate::{Record, Settings, Stripes, Workspace, raw, stripes};
 use std::ops::Range;
 
-/// A stack of tapes, or one tape, that is drawn in stripes, a budget of strokes at a time.
+/// A cue that is drawn in stripes, a budget of strokes at a time.
 ///
-/// It keeps the tapes, the settings and the picture for as long as it lasts, so that each row holds
-/// what the first of their strokes leave on zeros, as many as were done on its stripe. Once they are
-/// all done on every stripe, the picture is what [`draw`](crate::draw) leaves.
+/// It keeps the tape, the settings and the picture for as long as it lasts, so that each row holds
+/// what the first strokes of the cue leave on zeros, as many as were done on its stripe. Once they
+/// are all done on every stripe, the picture is what [`draw`](crate::draw) leaves.
 ///
 /// A job may be stopped between two calls and go on elsewhere: whoever stores its record and its
-/// picture resumes it with the same tapes and settings.
+/// picture resumes it with the same tape and settings.
 ///
 /// ```
 /// use captions::{Job, Record, Settings, Stripes, Workspace, draw};
@@ -38,7 +38,7 @@ use std::ops::Range;
 #[derive(Debug)]
 pub struct Job<'a> {
     settings: Settings,
-    stack: Stack<'a>,
+    tape: &'a [u8],
     picture: &'a mut [u8],
     record: Record,
     total: u32,
@@ -49,18 +49,22 @@ impl<'a> Job<'a> {
     /// a picture of another height.
     pub fn open(
         settings: &Settings,
-        tapes: impl Into<Stack<'a>>,
+        tape: &'a [u8],
         workspace: &mut Workspace,
         picture: &'a mut [u8],
         stripes: &Stripes,
     ) -> Result<Job<'a>> {
-        let (stack, mut record) = (tapes.into(), Record::ZEROS);
-        let buffers = stack.buffers(workspace, picture);
+        let mut record = Record::ZEROS;
+        let buffers = raw::Buffers {
+            tape,
+            workspace: workspace.bytes(),
+            picture,
+        };
         let answer = raw::open(&settings.raw(), buffers, stripes.raw(), &mut record);
-        let total = stack.answer(answer, workspace)?;
+        let total = refusal::answer(answer)?;
         Ok(Job {
             settings: *settings,
-            stack,
+            tape,
             picture,
             record,
             total,
@@ -70,26 +74,26 @@ impl<'a> Job<'a> {
     /// Goes on with a job from its stored record and picture, exactly as if it had never stopped.
     /// Nothing of the picture changes before the next Work.
     ///
-    /// Refused is what Work refuses on any stripe: settings, tapes or lengths that no call takes,
-    /// stripes that do not fit the picture, and counters that no job with these tapes and these
-    /// settings can have. The rest cannot be checked: that tapes and settings are those of
+    /// Refused is what Work refuses on any stripe: settings, tape or lengths that no call takes,
+    /// stripes that do not fit the picture, and counters that no job with this tape and these
+    /// settings can have. The rest cannot be checked: that tape and settings are those of
     /// Open, and that the picture is the one that the record was stored with. Where they are not,
     /// no call fails, but what comes out is not what Draw leaves.
     ///
     /// How many strokes there are in all is not in the record: it is asked of an Open on a picture
-    /// without rows, which reads the tapes once more.
+    /// without rows, which reads the tape once more.
     ///
     /// A picture without rows has no stripes: its record has a count of 0, and counters of 0.
     pub fn resume(
         settings: &Settings,
-        tapes: impl Into<Stack<'a>>,
+        tape: &'a [u8],
         workspace: &mut Workspace,
         picture: &'a mut [u8],
         record: &Record,
     ) -> Result<Job<'a>> {
         let mut job = Job {
             settings: *settings,
-            stack: tapes.into(),
+            tape,
             picture,
             record: *record,
             total: 0,
@@ -101,17 +105,21 @@ impl<'a> Job<'a> {
         {
             return Err(refusal);
         }
-        job.total = strokes(settings, &job.stack, workspace)?;
+        job.total = strokes(settings, tape, workspace)?;
         Ok(job)
     }
 
     /// Does the next strokes on the rows of a stripe, as many as the budget or as are left, and
     /// answers how many they were.
     pub fn work(&mut self, workspace: &mut Workspace, stripe: u32, budget: u32) -> Result<u32> {
+        let buffers = raw::Buffers {
+            tape: self.tape,
+            workspace: workspace.bytes(),
+            picture: self.picture,
+        };
         let settings = self.settings.raw();
-        let buffers = self.stack.buffers(workspace, self.picture);
         let answer = raw::work(&settings, buffers, &mut self.record, stripe, budget);
-        self.stack.answer(answer, workspace)
+        refusal::answer(answer)
     }
 
     /// How far the job is: what is stored, with the picture, to resume it.
@@ -119,7 +127,7 @@ impl<'a> Job<'a> {
         self.record
     }
 
-    /// How many strokes there are, as [`draw`](crate::draw) counts them.
+    /// How many strokes the cue has, as [`draw`](crate::draw) counts them.
     pub fn total(&self) -> u32 {
         self.total
     }
@@ -146,13 +154,13 @@ impl<'a> Job<'a> {
     }
 }
 
-/// How many strokes a stack has. They do not depend on the picture's height, so an Open counts them
+/// How many strokes a cue has. They do not depend on the picture's height, so an Open counts them
 /// on a picture without rows.
-fn strokes(settings: &Settings, stack: &Stack, workspace: &mut Workspace) -> Result<u32> {
+fn strokes(settings: &Settings, tape: &[u8], workspace: &mut Workspace) -> Result<u32> {
     let flat = Settings {
         height: 0,
         ..*settings
     };
     let none = Stripes::new(0, &[])?;
-    Job::open(&flat, stack, workspace, &mut [], &none).map(|job| job.total)
+    Job::open(&flat, tape, workspace, &mut [], &none).map(|job| job.total)
 }

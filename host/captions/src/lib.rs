@@ -1,9 +1,8 @@
 //! Bitmap captions, drawn by the proved library `libcaptions.a`.
 //!
 //! A cue comes in as a tape of bytes. [`draw`] draws it whole, [`wrap`] breaks it into lines, and
-//! [`Job`] draws it in stripes, a budget of strokes at a time, and can be stored and resumed. Cues
-//! that are on screen together are a [`Stack`] of tapes, which is drawn as one tape is. What is not
-//! admitted comes back as a [`Refusal`], and the picture stays as it was; no call panics.
+//! [`Job`] draws it in stripes, a budget of strokes at a time, and can be stored and resumed. What
+//! is not admitted comes back as a [`Refusal`], and the picture stays as it was; no call panics.
 //!
 //! ```
 //! use captions::{Settings, Workspace, draw};
@@ -22,7 +21,6 @@ pub mod raw;
 mod record;
 mod refusal;
 mod settings;
-mod stack;
 mod stripes;
 mod workspace;
 
@@ -30,22 +28,20 @@ pub use command::Command;
 pub use job::Job;
 pub use lines::{COLUMNS_MAX, Line, wrap};
 pub use record::{OLD_RECORD_BYTES, RECORD_BYTES, Record};
-pub use refusal::{Cause, InTape, Refusal, Result};
+pub use refusal::{Cause, Refusal, Result};
 pub use settings::{
     Align, GlyphMode, LINE_HEIGHT_MAX, OUTLINE_CAP_MAX, SIDE_MARGIN_MAX, SIDE_MAX, SLANT_MAX,
     Settings,
 };
-pub use stack::{Stack, TAPES_MAX};
 pub use stripes::{STRIPES_MAX, Stripes};
 pub use workspace::{WORKSPACE_BYTES, Workspace};
 
 /// The most bytes of a tape.
 pub const TAPE_MAX: usize = 16_384;
-/// The most letters of a cue, which is one tape's.
+/// The most letters of a cue.
 pub const LETTERS_MAX: usize = 4_096;
 
-/// Draws the cue of a tape, or those of a [`Stack`] of tapes, on a cleared picture, and answers how
-/// many strokes it took.
+/// Draws a tape's cue on a cleared picture, and answers how many strokes it took.
 ///
 /// A letter on a line that has ink is one stroke, and eight more for each pixel of outline up to its
 /// cap. One without ink has none: a space, a control, the no-break space and the soft hyphen. Whether
@@ -53,13 +49,16 @@ pub const LETTERS_MAX: usize = 4_096;
 ///
 /// `picture` begins with the picture: its rows from the top, each its pixels from the left, four
 /// bytes a pixel, red, green, blue and alpha. The bytes after it stay.
-pub fn draw<'a>(
+pub fn draw(
     settings: &Settings,
-    tapes: impl Into<Stack<'a>>,
+    tape: &[u8],
     workspace: &mut Workspace,
     picture: &mut [u8],
 ) -> Result<u32> {
-    let stack = tapes.into();
-    let answer = raw::draw(&settings.raw(), stack.buffers(workspace, picture));
-    stack.answer(answer, workspace)
+    let buffers = raw::Buffers {
+        tape,
+        workspace: workspace.bytes(),
+        picture,
+    };
+    refusal::answer(raw::draw(&settings.raw(), buffers))
 }

@@ -49,19 +49,16 @@ impl Stripes {
     }
 }
 
-/// What a call is lent.
+/// The bytes that a call is lent.
 pub struct Buffers<'a> {
-    /// Tapes end to end.
-    pub tapes: &'a [u8],
-    /// Where each of them ends, counted from the start of the first.
-    pub tape_ends: &'a [u32],
+    pub tape: &'a [u8],
     pub workspace: &'a mut [u8],
     /// A buffer that begins with the picture.
     pub picture: &'a mut [u8],
 }
 
 // The calls below are safe for one reason: each pointer and length are those of one slice, and each
-// reference is to one struct of numbers, lent for the call alone. Every tape, end, length, number,
+// reference is to one struct of numbers, lent for the call alone. Every tape, length, number,
 // record and division into stripes is allowed.
 
 /// Breaks a tape's letters into lines, and answers how many the workspace then begins with.
@@ -94,10 +91,8 @@ macro_rules! call {
         unsafe extern "C" {
             fn $function(
                 settings: &Settings,
-                tapes: *const u8,
-                tapes_len: usize,
-                tape_ends: *const u32,
-                tape_count: usize,
+                tape: *const u8,
+                tape_len: usize,
                 workspace: *mut u8,
                 workspace_len: usize,
                 picture: *mut u8,
@@ -109,10 +104,8 @@ macro_rules! call {
         unsafe {
             $function(
                 $settings,
-                $buffers.tapes.as_ptr(),
-                $buffers.tapes.len(),
-                $buffers.tape_ends.as_ptr(),
-                $buffers.tape_ends.len(),
+                $buffers.tape.as_ptr(),
+                $buffers.tape.len(),
                 $buffers.workspace.as_mut_ptr(),
                 $buffers.workspace.len(),
                 $buffers.picture.as_mut_ptr(),
@@ -123,13 +116,13 @@ macro_rules! call {
     }};
 }
 
-/// Draws the cues of a stack of tapes, and answers how many strokes they took.
+/// Draws a tape's cue, and answers how many strokes it took.
 pub fn draw(settings: &Settings, buffers: Buffers) -> u64 {
     call!(captions_draw(settings, buffers))
 }
 
-/// Clears the picture for the cues of a stack of tapes, gives the record of these stripes, and
-/// answers how many strokes the cues have.
+/// Clears the picture for a tape's cue, gives the record of these stripes, and answers how many
+/// strokes the cue has.
 pub fn open(settings: &Settings, buffers: Buffers, stripes: &Stripes, record: &mut Record) -> u64 {
     call!(captions_open(settings, buffers, stripes: &Stripes, record: &mut Record))
 }

@@ -27,7 +27,7 @@ pub enum Cause {
     OutOfRange,
     /// 9: the picture's buffer has under width · height · 4 bytes.
     PictureTooShort,
-    /// 10: a tape has over [`TAPE_MAX`](crate::TAPE_MAX) bytes.
+    /// 10: the tape has over [`TAPE_MAX`](crate::TAPE_MAX) bytes.
     TapeTooLong,
     /// 11: the workspace has under [`WORKSPACE_BYTES`](crate::WORKSPACE_BYTES).
     WorkspaceTooShort,
@@ -36,18 +36,15 @@ pub enum Cause {
     /// 13: over [`STRIPES_MAX`](crate::STRIPES_MAX) stripes, or ends that do not rise from above 0 to
     /// the picture's height.
     StripesUnfit,
-    /// 14: a counter of the record is over the strokes, or not 0 past the last stripe.
+    /// 14: a counter of the record is over the cue's strokes, or not 0 past the last stripe.
     CountersUnsound,
-    /// 18: no tape, over [`TAPES_MAX`](crate::TAPES_MAX), ends that fall, or a last one that is not the
-    /// length of the tapes' bytes.
-    TapesUnfit,
-    /// A number that this wrapper does not know: neither of 1 to 14 nor 18. Its library gives no such.
+    /// A number that this wrapper does not know: none of 1 to 14. Its library gives no such.
     Unknown(u32),
 }
 
 impl Cause {
-    /// All that are known, in the order of their numbers.
-    pub const ALL: [Cause; 15] = [
+    /// All that are known, in the order of their numbers, which count from 1.
+    pub const ALL: [Cause; 14] = [
         Cause::UnknownCommand,
         Cause::OperandsMissing,
         Cause::Unbalanced,
@@ -62,7 +59,6 @@ impl Cause {
         Cause::NoSuchStripe,
         Cause::StripesUnfit,
         Cause::CountersUnsound,
-        Cause::TapesUnfit,
     ];
 
     /// The cause of any number.
@@ -89,12 +85,11 @@ impl Cause {
             Cause::NoSuchStripe => 12,
             Cause::StripesUnfit => 13,
             Cause::CountersUnsound => 14,
-            Cause::TapesUnfit => 18,
             Cause::Unknown(number) => number,
         }
     }
 
-    /// Whether it lies in a tape.
+    /// Whether it lies in the tape.
     pub fn is_in_tape(self) -> bool {
         (1..=7).contains(&self.number())
     }
@@ -124,10 +119,6 @@ impl Cause {
             Cause::CountersUnsound => {
                 "a counter is over the cue's strokes, or is not 0 past the last stripe"
             }
-            Cause::TapesUnfit => {
-                "the stack has no tape or more than 8, an end that falls, or a last one that is not \
-                 its length"
-            }
             Cause::Unknown(_) => "the cause is unknown",
         }
     }
@@ -137,68 +128,32 @@ impl Cause {
 #[derive(Clone, Copy, Debug, PartialEq, Eq)]
 pub struct Refusal {
     pub cause: Cause,
-    /// For a cause in a tape the offset of the command at fault, or of the tape's end where the tape
-    /// ended too soon, counted from the start of the stack; else 0.
+    /// For a cause in the tape the offset of the command at fault, or the tape's length where the
+    /// tape ended too soon; else 0.
     pub place: usize,
-    /// For a cause in a tape, which tape it is, and the place in it; else none.
-    pub in_tape: Option<InTape>,
-}
-
-/// Where a tape of a stack is at fault.
-#[derive(Clone, Copy, Debug, PartialEq, Eq)]
-pub struct InTape {
-    /// The tape's number, counted from 0.
-    pub tape: usize,
-    /// How many tapes the stack has.
-    pub of: usize,
-    /// The place, counted from the tape's own start.
-    pub place: usize,
-}
-
-impl Refusal {
-    /// One that lies in no tape.
-    pub(crate) const fn of_call(cause: Cause) -> Refusal {
-        Refusal {
-            cause,
-            place: 0,
-            in_tape: None,
-        }
-    }
 }
 
 impl Display for Refusal {
     fn fmt(&self, to: &mut Formatter) -> fmt::Result {
-        write!(to, "refused {}", self.cause.number())?;
-        if let Some(InTape { tape, of, place }) = self.in_tape {
+        let Refusal { cause, place } = self;
+        write!(to, "refused {}", cause.number())?;
+        if cause.is_in_tape() {
             write!(to, " at byte {place}")?;
-            // A tape alone needs no number.
-            if of > 1 {
-                write!(to, " of tape {tape}")?;
-            }
         }
-        write!(to, ": {}", self.cause.sentence())
+        write!(to, ": {}", cause.sentence())
     }
 }
 
 impl Error for Refusal {}
 
-/// What the two halves of an answer hold: a number, or a refusal's number and its place. The call is
-/// taken for one on a tape alone.
+/// What the two halves of an answer hold: a number, or a refusal's number and its place.
 pub(crate) fn answer(answer: u64) -> Result<u32> {
     let low = answer as u32;
-    let cause = match (answer >> 32) as u32 {
-        0 => return Ok(low),
-        number => Cause::of(number),
-    };
-    let place = low as usize;
-    let in_tape = cause.is_in_tape().then_some(InTape {
-        tape: 0,
-        of: 1,
-        place,
-    });
-    Err(Refusal {
-        cause,
-        place,
-        in_tape,
-    })
+    match (answer >> 32) as u32 {
+        0 => Ok(low),
+        number => Err(Refusal {
+            cause: Cause::of(number),
+            place: low as usize,
+        }),
+    }
 }

@@ -10,7 +10,10 @@ pub const STRIPES_MAX: u32 = 64;
 
 pub(crate) const PLACES: usize = STRIPES_MAX as usize;
 
-const UNFIT: Refusal = Refusal::of_call(Cause::StripesUnfit);
+const UNFIT: Refusal = Refusal {
+    cause: Cause::StripesUnfit,
+    place: 0,
+};
 
 /// A picture's stripes, from the top, of any heights. A stripe has the rows from the end of the one
 /// before it, or from row 0, up to its own end, which is the first row below it. So the ends rise,

@@ -1,8 +1,8 @@
-//! Any bytes as tapes, with any settings: no call panics, and Draw and a job agree.
+//! Any bytes as a tape, with any settings: no call panics, and Draw and a job agree.
 
 mod common;
 
-use captions::{Align, GlyphMode, Job, Result, Settings, Stack, Stripes, Workspace, draw, wrap};
+use captions::{Align, GlyphMode, Job, Result, Settings, Stripes, Workspace, draw, wrap};
 use common::{Random, painted, rising_ends};
 
 const CASES: u64 = 4_000;
@@ -79,30 +79,11 @@ fn opener(random: &mut Random) -> Vec<u8> {
     }
 }
 
-/// Tapes end to end and their ends, mostly of a tape or a few; now and then of more than may be or of
-/// none, or with ends that need not fit.
-fn stack(random: &mut Random) -> (Vec<u8>, Vec<u32>) {
-    let count = match random.under(20) {
-        0 => random.under(11),
-        1..10 => 1,
-        _ => 2 + random.under(3),
-    };
-    let tapes: Vec<Vec<u8>> = (0..count).map(|_| tape(random)).collect();
-    let stack = Stack::from(&tapes);
-    let mut ends = stack.ends().to_vec();
-    if let (true, Some(end)) = (random.one_in(40), ends.last_mut()) {
-        *end = random.under(100);
-        let other = random.under(count) as usize;
-        ends[other] = random.under(100);
-    }
-    (stack.bytes().to_vec(), ends)
-}
-
 /// What a finished job answers and leaves, stripe after stripe with some budgets.
 fn in_stripes(
     random: &mut Random,
     settings: &Settings,
-    stack: &Stack,
+    tape: &[u8],
     picture: &mut [u8],
 ) -> Result<u32> {
     let least = settings.height.div_ceil(64).max(1);
@@ -111,7 +92,7 @@ fn in_stripes(
         false => Stripes::new(settings.height, &rising_ends(random, settings.height))?,
     };
     let workspace = &mut Workspace::new();
-    let mut job = Job::open(settings, stack, workspace, picture, &stripes)?;
+    let mut job = Job::open(settings, tape, workspace, picture, &stripes)?;
     for stripe in 0..job.stripes() {
         while job.done(stripe) < job.total() {
             let before = job.done(stripe);
@@ -124,38 +105,41 @@ fn in_stripes(
 }
 
 #[test]
-fn draw_and_a_job_agree_on_any_stack() {
-    let (mut accepted, mut refused) = ([0; 11], [0; 19]);
+fn draw_and_a_job_agree_on_any_tape() {
+    let (mut accepted, mut refused) = (0, [0; 15]);
     for seed in 0..CASES {
         let random = &mut Random(seed);
-        let (settings, (tapes, ends)) = (settings(random), stack(random));
-        let stack = Stack::laid(&tapes, &ends);
+        let (settings, tape) = (settings(random), tape(random));
         let mut first = painted(&settings, AFTER);
         if random.one_in(40) {
             first.truncate(first.len() / 2);
         }
         let before = first.clone();
         let mut second = first.clone();
-        let answer = draw(&settings, &stack, &mut Workspace::new(), &mut first);
+        let answer = draw(&settings, &tape, &mut Workspace::new(), &mut first);
         assert_eq!(
-            in_stripes(random, &settings, &stack, &mut second),
+            in_stripes(random, &settings, &tape, &mut second),
             answer,
             "seed {seed}"
         );
         assert_eq!(first, second, "seed {seed}");
         match answer {
-            Ok(_) => accepted[stack.count()] += 1,
+            Ok(_) => accepted += 1,
             Err(refusal) => {
                 assert_eq!(first, before, "seed {seed}");
                 refused[refusal.cause.number() as usize] += 1;
             }
         }
     }
-    let told = format!("accepted by count {accepted:?}, refused by number {refused:?}");
-    assert!(accepted.iter().sum::<u64>() > CASES / 4, "{told}");
-    assert!(accepted[1..=8].iter().all(|&count| count > 0), "{told}");
-    for number in [1, 2, 3, 7, 8, 9, 18] {
-        assert!(refused[number] > 0, "{told}");
+    assert!(
+        accepted > CASES / 4,
+        "{accepted} accepted, refused by number {refused:?}"
+    );
+    for number in [1, 2, 3, 7, 8, 9] {
+        assert!(
+            refused[number] > 0,
+            "{accepted} accepted, refused by number {refused:?}"
+        );
     }
 }
 

@@ -1,6 +1,6 @@
 /*
  * A caller of libcaptions.a in C, and a test of captions.h: wraps a cue, draws it, draws it again
- * in stripes, draws several as a stack, and is refused in every way that there is.
+ * in stripes, and is refused in every way that there is.
  */
 #include "captions.h"
 
@@ -21,10 +21,8 @@ enum {
 /* What a call that draws is given. */
 struct call {
     captions_settings settings;
-    const uint8_t *tapes;
-    size_t tapes_len;
-    uint32_t tape_ends[CAPTIONS_TAPES_MAX + 1]; /* one more than may be */
-    size_t tape_count;
+    const uint8_t *tape;
+    size_t tape_len;
     uint8_t *workspace;
     size_t workspace_len;
     uint8_t *picture;
@@ -63,25 +61,18 @@ static void check(int holds, const char *what)
     }
 }
 
-/* The ends of a call's tapes: NULL where it has none. */
-static const uint32_t *ends_of(const struct call *c)
-{
-    return c->tape_count > 0 ? c->tape_ends : NULL;
-}
-
 /* The three calls that draw. */
 
 static uint64_t draw(const struct call *c)
 {
-    return captions_draw(&c->settings, c->tapes, c->tapes_len, ends_of(c), c->tape_count,
-                         c->workspace, c->workspace_len, c->picture, c->picture_len);
+    return captions_draw(&c->settings, c->tape, c->tape_len, c->workspace, c->workspace_len,
+                         c->picture, c->picture_len);
 }
 
 static uint64_t open_job(const struct call *c, captions_stripes stripes)
 {
-    return captions_open(&c->settings, c->tapes, c->tapes_len, ends_of(c), c->tape_count,
-                         c->workspace, c->workspace_len, c->picture, c->picture_len,
-                         &stripes, &record);
+    return captions_open(&c->settings, c->tape, c->tape_len, c->workspace, c->workspace_len,
+                         c->picture, c->picture_len, &stripes, &record);
 }
 
 /* In stripes of one height. */
@@ -92,31 +83,21 @@ static uint64_t open_equal(const struct call *c, uint32_t stripe_height)
 
 static uint64_t work(const struct call *c, uint32_t stripe, uint32_t budget)
 {
-    return captions_work(&c->settings, c->tapes, c->tapes_len, ends_of(c), c->tape_count,
-                         c->workspace, c->workspace_len, c->picture, c->picture_len,
-                         &record, stripe, budget);
-}
-
-/* Lends a call one tape. */
-static void lend_tape(struct call *c, const uint8_t *tape, size_t length)
-{
-    c->tapes = tape;
-    c->tapes_len = length;
-    c->tape_ends[0] = captions_one_tape(length);
-    c->tape_count = 1;
+    return captions_work(&c->settings, c->tape, c->tape_len, c->workspace, c->workspace_len,
+                         c->picture, c->picture_len, &record, stripe, budget);
 }
 
 /* A call that is accepted: the greeting in yellow, with a blue outline of one pixel. */
 static struct call good_call(void)
 {
     struct call c;
-    memset(&c, 0, sizeof c);
     c.settings = captions_settings_usual(WIDTH, HEIGHT);
     c.settings.default_color = 0xFFEE11FF;
     c.settings.outline_color = 0x0022CCFF;
     c.settings.line_height = 16;
     c.settings.bottom_margin = 4;
-    lend_tape(&c, GREETING, sizeof GREETING);
+    c.tape = GREETING;
+    c.tape_len = sizeof GREETING;
     c.workspace = workspace;
     c.workspace_len = sizeof workspace;
     c.picture = picture;
@@ -133,7 +114,8 @@ static struct call house_call(void)
     c.settings.side_margin = 40;
     c.settings.slant = CAPTIONS_SLANT_MAX;
     c.settings.outline_cap = CAPTIONS_OUTLINE_CAP_MAX;
-    lend_tape(&c, LEANING, sizeof LEANING);
+    c.tape = LEANING;
+    c.tape_len = sizeof LEANING;
     return c;
 }
 
@@ -277,7 +259,8 @@ static int pixels_in_mode(uint32_t mode, uint8_t high, uint8_t low)
 {
     const uint8_t tape[] = {CAPTIONS_LETTER_2, high, low};
     struct call c = good_call();
-    lend_tape(&c, tape, sizeof tape);
+    c.tape = tape;
+    c.tape_len = sizeof tape;
     c.settings.glyph_mode = mode;
     check(draw(&c) == 9, "Draw: the glyph mode is accepted");
     return pixels_of(c.settings.default_color);
@@ -349,8 +332,10 @@ static int draws_alike(struct call c, const uint8_t *one, size_t one_len, const 
                        size_t other_len)
 {
     struct call d = c;
-    lend_tape(&c, one, one_len);
-    lend_tape(&d, other, other_len);
+    c.tape = one;
+    c.tape_len = one_len;
+    d.tape = other;
+    d.tape_len = other_len;
     return draws_as(&c, &d);
 }
 
@@ -384,7 +369,8 @@ static void check_lines_of_colors(void)
 static size_t box_from(uint32_t alignment, uint32_t side_margin)
 {
     struct call c = good_call();
-    lend_tape(&c, BOX, sizeof BOX);
+    c.tape = BOX;
+    c.tape_len = sizeof BOX;
     c.settings.outline = 0;
     c.settings.alignment = alignment;
     c.settings.side_margin = side_margin;
@@ -419,7 +405,8 @@ static void check_slants(void)
     static const int rows_of_8[] = {5, 5, 4, 4, 3, 3, 2, 2, 1, 1, 0, -1};
     static const int rows_of_1[] = {1, 1, 1, 0, 0, 0, 0, 0, 0, 0, 0, 0};
     struct call c = good_call();
-    lend_tape(&c, italic, sizeof italic);
+    c.tape = italic;
+    c.tape_len = sizeof italic;
     c.settings.outline = 0;
     c.settings.alignment = CAPTIONS_ALIGN_LEFT;
     size_t top = HEIGHT - c.settings.bottom_margin - 16;
@@ -493,7 +480,8 @@ static void check_stored(void)
 static void check_empty(void)
 {
     struct call c = good_call();
-    lend_tape(&c, NULL, 0);
+    c.tape = NULL;
+    c.tape_len = 0;
     check(captions_wrap(NULL, 0, workspace, sizeof workspace, 4) == 0, "Wrap: of an empty tape");
     check(draw(&c) == 0, "Draw: of an empty tape");
     check(is_all(picture, PICTURE_BYTES, 0), "Draw: an empty tape leaves a clear picture");
@@ -523,7 +511,7 @@ static void check_answer(const char *what, uint64_t answer, uint32_t number, uin
 static void check_left(const char *what, uint32_t number)
 {
     check(is_all(picture, sizeof picture, PAINT), what);
-    if ((number >= 8 && number <= 11) || number == 13 || number == 18) {
+    if ((number >= 8 && number <= 11) || number == 13) {
         check(is_all(workspace, sizeof workspace, PAINT), what);
     }
 }
@@ -583,7 +571,8 @@ static void check_letters_without_ink(void)
         CAPTIONS_LETTER_1, 'A', CAPTIONS_LETTER_1, 0x01, CAPTIONS_LETTER_1, 'B'};
     static const uint8_t without_ink[] = {CAPTIONS_LETTER_1, 0xA0, CAPTIONS_LETTER_1, 0xAD};
     struct call c = good_call();
-    lend_tape(&c, control_between, sizeof control_between);
+    c.tape = control_between;
+    c.tape_len = sizeof control_between;
     check(draw(&c) == 18, "Draw: the letters A, 01 and B have eighteen strokes");
     new_record(usual_stripes());
     record.counters[0] = 18;
@@ -593,7 +582,8 @@ static void check_letters_without_ink(void)
     record.counters[0] = 27;
     check_work_refused(&c, 0, CAPTIONS_COUNTERS_UNSOUND, 0);
 
-    lend_tape(&c, without_ink, sizeof without_ink);
+    c.tape = without_ink;
+    c.tape_len = sizeof without_ink;
     check(draw(&c) == 0, "Draw: a no-break space and a soft hyphen have no strokes");
     check(open_equal(&c, STRIPE_HEIGHT) == 0, "Open: nor has their job");
     check(work(&c, 3, BUDGET) == 0, "Work: which has nothing to do");
@@ -612,7 +602,8 @@ static void check_refused(const struct call *c, uint32_t number, uint32_t place)
 static void check_tape(const uint8_t *tape, size_t length, uint32_t number, uint32_t place)
 {
     struct call c = good_call();
-    lend_tape(&c, tape, length);
+    c.tape = tape;
+    c.tape_len = length;
     paint();
     check_answer("Wrap, refused", captions_wrap(tape, length, workspace, sizeof workspace, 4),
                  number, place);
@@ -729,7 +720,7 @@ static void check_length_refusals(void)
 
     c.workspace_len = CAPTIONS_WORKSPACE_MIN - 1;
     check_refused(&c, CAPTIONS_WORKSPACE_TOO_SHORT, 0);
-    uint64_t answer = captions_wrap(c.tapes, c.tapes_len, workspace, CAPTIONS_WORKSPACE_MIN - 1, 4);
+    uint64_t answer = captions_wrap(c.tape, c.tape_len, workspace, CAPTIONS_WORKSPACE_MIN - 1, 4);
     check_answer("Wrap, workspace too short", answer, CAPTIONS_WORKSPACE_TOO_SHORT, 0);
 }
 
@@ -840,7 +831,8 @@ static void check_unfit(struct call c, captions_stripes stripes)
     check_open_refused(&c, stripes, CAPTIONS_STRIPES_UNFIT, 0);
     new_record(stripes);
     check_work_refused(&c, 0, CAPTIONS_STRIPES_UNFIT, 0);
-    lend_tape(&c, faulty, sizeof faulty);
+    c.tape = faulty;
+    c.tape_len = sizeof faulty;
     check_open_refused(&c, stripes, CAPTIONS_STRIPES_UNFIT, 0);
     new_record(stripes);
     memset(record.counters, PAINT, sizeof record.counters);
@@ -914,9 +906,8 @@ static void check_behind_stripes(void)
     beside.stripes = captions_stripes_of_height(c.settings.height, 1);
     beside.next = c.settings.height;
     check_answer("Open, 65 stripes",
-                 captions_open(&c.settings, c.tapes, c.tapes_len, c.tape_ends, c.tape_count,
-                               c.workspace, c.workspace_len, c.picture, c.picture_len,
-                               &beside.stripes, &record),
+                 captions_open(&c.settings, c.tape, c.tape_len, c.workspace, c.workspace_len,
+                               c.picture, c.picture_len, &beside.stripes, &record),
                  CAPTIONS_STRIPES_UNFIT, 0);
     new_record(beside.stripes);
     record.counters[0] = beside.next;
@@ -1002,308 +993,6 @@ static void check_equal_stripes(void)
               && most.ends[2] == 0, "equal stripes: no sum wraps");
 }
 
-/* Room for as many tapes as may be and one more, each a byte too long. */
-static uint8_t laid[(CAPTIONS_TAPES_MAX + 1) * (CAPTIONS_TAPE_MAX + 1)];
-
-/* A call with a stack that has no tape yet. */
-static struct call stack_call(void)
-{
-    struct call c = good_call();
-    c.tapes = laid;
-    c.tapes_len = 0;
-    c.tape_count = 0;
-    return c;
-}
-
-/* Lays one more tape on the stack. */
-static void add_tape(struct call *c, const uint8_t *tape, size_t length)
-{
-    memcpy(laid + c->tapes_len, tape, length);
-    c->tapes_len += length;
-    c->tape_ends[c->tape_count++] = (uint32_t)c->tapes_len;
-}
-
-static const uint8_t LETTER[] = {CAPTIONS_LETTER_1, 'A'};
-static const uint8_t BLANK[] = {CAPTIONS_LETTER_1, ' '};
-static const uint8_t WITHOUT_INK[] = {CAPTIONS_LETTER_1, 0xA0}; /* and yet a line */
-static const uint8_t BELOW_A_BLANK_LINE[] = {CAPTIONS_BREAK, CAPTIONS_LETTER_1, 'A'};
-static const uint8_t UNCLOSED[] = {CAPTIONS_BOLD};
-static const uint8_t CLOSED[] = {CAPTIONS_END};
-static const uint8_t EMPTY[] = {CAPTIONS_EMPTY};
-static const uint8_t UNKNOWN[] = {CAPTIONS_TIME_MARK + 1};
-
-static void check_one_tape(void)
-{
-    static const struct {
-        size_t length;
-        uint32_t end;
-    } due[] = {
-        {0, 0}, {1, 1}, {CAPTIONS_TAPE_MAX + 1, CAPTIONS_TAPE_MAX + 1},
-        {UINT32_MAX - 1, UINT32_MAX - 1}, {UINT32_MAX, UINT32_MAX},
-        {(size_t)UINT32_MAX + 1, UINT32_MAX}, {(size_t)UINT32_MAX + 8, UINT32_MAX},
-        {SIZE_MAX, UINT32_MAX}};
-    for (size_t i = 0; i < sizeof due / sizeof due[0]; i++) {
-        check(captions_one_tape(due[i].length) == due[i].end, "one tape: its end");
-    }
-    uint32_t end = captions_one_tape(sizeof GREETING);
-    struct call c = good_call();
-    check(captions_draw(&c.settings, GREETING, sizeof GREETING, &end, 1, workspace,
-                        sizeof workspace, picture, sizeof picture) == GREETING_LETTERS * 9,
-          "one tape: is drawn");
-}
-
-/* Lays a picture over another, both in opaque colors. */
-static void lay_over(uint8_t *lower, const uint8_t *upper)
-{
-    for (size_t at = 0; at < PICTURE_BYTES; at += 4) {
-        if (upper[at + 3] != 0) {
-            memcpy(lower + at, upper + at, 4);
-        }
-    }
-}
-
-/*
- * The box above a tape, which raises it by so many pixels: what either leaves alone, the box with
- * such a margin more, and laid over the other. The outlines are so wide that the order shows.
- */
-static void check_box_above(const uint8_t *tape, size_t length, uint32_t line_height,
-                            uint32_t raised)
-{
-    static uint8_t due[sizeof picture];
-    struct call c = stack_call(), alone = good_call();
-    alone.settings.line_height = line_height;
-    alone.settings.outline = CAPTIONS_OUTLINE_CAP_MAX;
-    alone.settings.outline_cap = CAPTIONS_OUTLINE_CAP_MAX;
-    c.settings = alone.settings;
-    lend_tape(&alone, tape, length);
-    uint64_t strokes = draw(&alone);
-    memcpy(due, picture, sizeof due);
-    lend_tape(&alone, BOX, sizeof BOX);
-    alone.settings.bottom_margin += raised;
-    strokes += draw(&alone);
-    lay_over(due, picture);
-    add_tape(&c, tape, length);
-    add_tape(&c, BOX, sizeof BOX);
-    check(draw(&c) == strokes, "stack: answers the strokes of both");
-    check(memcmp(picture, due, PICTURE_BYTES) == 0, "stack: the later tape is above, and over");
-}
-
-/* Whether Draw makes of a stack what it makes of one tape. */
-static int draws_as_alone(const struct call *c, const uint8_t *tape, size_t length)
-{
-    struct call alone = *c;
-    lend_tape(&alone, tape, length);
-    return draws_as(c, &alone);
-}
-
-static void check_stack_lines(void)
-{
-    struct call c = stack_call();
-    check_box_above(LETTER, sizeof LETTER, 16, 16);
-    check_box_above(LETTER, sizeof LETTER, 19, 19);
-    check_box_above(LETTER, sizeof LETTER, 3, 16);
-    check_box_above(GREETING, sizeof GREETING, 16, 2 * 16);
-    check_box_above(BELOW_A_BLANK_LINE, sizeof BELOW_A_BLANK_LINE, 16, 2 * 16);
-    check_box_above(WITHOUT_INK, sizeof WITHOUT_INK, 16, 16);
-    check_box_above(BLANK, sizeof BLANK, 16, 0);
-    check_box_above(EMPTY, 0, 16, 0);
-
-    add_tape(&c, EMPTY, 0);
-    add_tape(&c, BLANK, sizeof BLANK);
-    add_tape(&c, GREETING, sizeof GREETING);
-    add_tape(&c, EMPTY, sizeof EMPTY);
-    check(draws_as_alone(&c, GREETING, sizeof GREETING), "stack: tapes without lines take none");
-    add_tape(&c, GREETING, sizeof GREETING);
-    check(!draws_as_alone(&c, GREETING, sizeof GREETING), "stack: and others do");
-
-    c = stack_call();
-    add_tape(&c, GREETING, sizeof GREETING);
-    add_tape(&c, LEANING, sizeof LEANING);
-    add_tape(&c, BOX, sizeof BOX);
-    check_job(c);
-}
-
-/* Only the first base line stops at row 0: what is above it is off the picture. */
-static void check_above_the_picture(void)
-{
-    struct call c = stack_call(), alone = good_call();
-    static uint8_t due[sizeof picture];
-    static const uint8_t red_box[] = {CAPTIONS_COLOR, 0xFF, 0, 0, CAPTIONS_LETTER_2, 0x01, 0x00,
-                                      CAPTIONS_END};
-    alone.settings.bottom_margin = c.settings.bottom_margin = HEIGHT;
-    lend_tape(&alone, BOX, sizeof BOX);
-    uint64_t strokes = draw(&alone);
-    memcpy(due, picture, sizeof due);
-    check(!is_all(due, PICTURE_BYTES, 0), "above the picture: the first tape can be seen");
-    add_tape(&c, BOX, sizeof BOX);
-    add_tape(&c, red_box, sizeof red_box);
-    check(draw(&c) == strokes + 9, "above the picture: strokes that cannot be seen count");
-    check(memcmp(picture, due, PICTURE_BYTES) == 0, "above the picture: only the first is seen");
-}
-
-/* As many tapes as may be, each with as many bytes and letters as it may have; and one too many. */
-static void check_full_stack(void)
-{
-    static uint8_t full[CAPTIONS_TAPE_MAX];
-    static const uint8_t letter[] = {CAPTIONS_LETTER_3, 0, 0, 'x'};
-    struct call c = stack_call();
-    for (size_t at = 0; at < sizeof full; at += sizeof letter) {
-        memcpy(full + at, letter, sizeof letter);
-    }
-    for (int i = 0; i < CAPTIONS_TAPES_MAX; i++) {
-        add_tape(&c, full, sizeof full);
-    }
-    check(draw(&c) == CAPTIONS_TAPES_MAX * CAPTIONS_LETTERS_MAX * 9, "Draw: eight full tapes");
-    check(open_equal(&c, STRIPE_HEIGHT) == CAPTIONS_TAPES_MAX * CAPTIONS_LETTERS_MAX * 9,
-          "Open: eight full tapes");
-    record.counters[3] = CAPTIONS_TAPES_MAX * CAPTIONS_LETTERS_MAX * 9 - BUDGET;
-    check(work(&c, 3, UINT32_MAX) == BUDGET, "Work: the last strokes of eight full tapes");
-
-    size_t last = c.tapes_len - sizeof letter;
-    laid[last] = laid[last + 1] = laid[last + 2] = laid[last + 3] = CAPTIONS_BREAK;
-    check_refused(&c, CAPTIONS_TOO_MANY_LETTERS, (uint32_t)last + 1);
-    laid[last] = CAPTIONS_LETTER_3;
-    laid[last + 1] = 0x11;
-    check_refused(&c, CAPTIONS_NOT_A_SCALAR, (uint32_t)last);
-    c.tape_ends[6]--;
-    check_refused(&c, CAPTIONS_TAPE_TOO_LONG, 0);
-    c.tape_ends[6] += 2;
-    check_refused(&c, CAPTIONS_TAPE_TOO_LONG, 0);
-}
-
-/* Stacks that are none: 18 at every call. */
-static void check_stack_refusals(void)
-{
-    struct call c = stack_call();
-    check_refused(&c, CAPTIONS_TAPES_UNFIT, 0);
-    for (int i = 0; i < CAPTIONS_TAPES_MAX; i++) {
-        add_tape(&c, EMPTY, 0);
-    }
-    check(draw(&c) == 0, "Draw: eight empty tapes");
-    add_tape(&c, EMPTY, 0);
-    check_refused(&c, CAPTIONS_TAPES_UNFIT, 0);
-
-    static const uint32_t unfit[][3] = {
-        {2, 1, 6}, {6, 5, 6}, {7, 6, 6}, {2, 4, 5}, {2, 4, 7}, {2, 7, 6}, {0, 0, 0}, {6, 6, 0},
-        {2, 4, UINT32_MAX}, {UINT32_MAX, 4, 6}, {2, 4, 6u + (1u << 16)}, {2, 4, 6u + (1u << 31)}};
-    static const uint32_t fit[][3] = {{2, 4, 6}, {0, 0, 6}, {6, 6, 6}, {0, 6, 6}, {4, 4, 6}};
-    c = stack_call();
-    for (int i = 0; i < 3; i++) {
-        add_tape(&c, LETTER, sizeof LETTER);
-    }
-    for (size_t i = 0; i < sizeof unfit / sizeof unfit[0]; i++) {
-        memcpy(c.tape_ends, unfit[i], sizeof unfit[i]);
-        check_refused(&c, CAPTIONS_TAPES_UNFIT, 0);
-    }
-    for (size_t i = 0; i < sizeof fit / sizeof fit[0]; i++) {
-        memcpy(c.tape_ends, fit[i], sizeof fit[i]);
-        check(draw(&c) == 3 * 9, "Draw: ends that stay or rise");
-    }
-}
-
-/* Lengths and counts are not cut to 32 bits. No byte is read of what is refused. */
-static void check_long_stacks(void)
-{
-    const size_t wrapped = (size_t)UINT32_MAX + 1;
-    struct call c = good_call();
-    c.tapes_len += wrapped;
-    check_refused(&c, CAPTIONS_TAPES_UNFIT, 0);
-    c.tape_ends[0] = captions_one_tape(c.tapes_len);
-    check_refused(&c, CAPTIONS_TAPES_UNFIT, 0);
-    c = good_call();
-    c.tape_count += wrapped;
-    check_refused(&c, CAPTIONS_TAPES_UNFIT, 0);
-    c = good_call();
-    c.tapes_len = c.tape_ends[0] = UINT32_MAX;
-    check_refused(&c, CAPTIONS_TAPE_TOO_LONG, 0);
-}
-
-/* Tapes are read in order, none runs into the next, and places are those in the stack. */
-static void check_stack_places(void)
-{
-    static const struct {
-        const uint8_t *first, *second;
-        uint32_t number, place;
-    } due[] = {
-        {UNCLOSED, CLOSED, CAPTIONS_UNBALANCED, 1}, {EMPTY, CLOSED, CAPTIONS_UNBALANCED, 1},
-        {EMPTY, UNCLOSED, CAPTIONS_UNBALANCED, 2}, {CLOSED, UNKNOWN, CAPTIONS_UNBALANCED, 0},
-        {UNCLOSED, UNKNOWN, CAPTIONS_UNBALANCED, 1}, {UNKNOWN, CLOSED, CAPTIONS_UNKNOWN_COMMAND, 0},
-        {EMPTY, UNKNOWN, CAPTIONS_UNKNOWN_COMMAND, 1}};
-    for (size_t i = 0; i < sizeof due / sizeof due[0]; i++) {
-        struct call c = stack_call();
-        add_tape(&c, due[i].first, 1);
-        add_tape(&c, due[i].second, 1);
-        check_refused(&c, due[i].number, due[i].place);
-    }
-    struct call c = stack_call();
-    for (int i = 1; i < CAPTIONS_TAPES_MAX; i++) {
-        add_tape(&c, GREETING, sizeof GREETING);
-    }
-    check(draw(&c) == 7 * GREETING_LETTERS * 9, "Draw: seven tapes");
-    add_tape(&c, UNKNOWN, sizeof UNKNOWN);
-    check_refused(&c, CAPTIONS_UNKNOWN_COMMAND, 7 * sizeof GREETING);
-    laid[0] = CAPTIONS_END;
-    check_refused(&c, CAPTIONS_UNBALANCED, 0);
-}
-
-/* Open and Work with these stripes, and Draw, whose number may be another. */
-static void check_all_refused(const struct call *c, captions_stripes stripes, uint32_t number,
-                              uint32_t drawn)
-{
-    check_draw_refused(c, drawn, 0);
-    check_open_refused(c, stripes, number, 0);
-    new_record(stripes);
-    memset(record.counters, PAINT, sizeof record.counters);
-    check_work_refused(c, UINT32_MAX, number, 0);
-}
-
-/* All at once that a call can be refused for, and then one less after the other. */
-static void check_order(void)
-{
-    static const uint8_t many[CAPTIONS_TAPE_MAX + 1] = {CAPTIONS_END};
-    captions_stripes stripes = captions_stripes_of_height(HEIGHT, 0);
-    struct call c = stack_call();
-    add_tape(&c, CLOSED, sizeof CLOSED);
-    add_tape(&c, many, sizeof many);
-    c.settings.slant = CAPTIONS_SLANT_MAX + 1;
-    c.picture_len = PICTURE_BYTES - 1;
-    c.tapes_len--;
-    c.workspace_len = CAPTIONS_WORKSPACE_MIN - 1;
-    check_all_refused(&c, stripes, CAPTIONS_OUT_OF_RANGE, CAPTIONS_OUT_OF_RANGE);
-    c.settings.slant = CAPTIONS_SLANT_MAX;
-    check_all_refused(&c, stripes, CAPTIONS_PICTURE_TOO_SHORT, CAPTIONS_PICTURE_TOO_SHORT);
-    c.picture_len = PICTURE_BYTES;
-    check_all_refused(&c, stripes, CAPTIONS_TAPES_UNFIT, CAPTIONS_TAPES_UNFIT);
-    c.tapes_len++;
-    check_all_refused(&c, stripes, CAPTIONS_TAPE_TOO_LONG, CAPTIONS_TAPE_TOO_LONG);
-    c.tape_ends[0]++;
-    check_all_refused(&c, stripes, CAPTIONS_WORKSPACE_TOO_SHORT, CAPTIONS_WORKSPACE_TOO_SHORT);
-    c.workspace_len = CAPTIONS_WORKSPACE_MIN;
-    check_all_refused(&c, stripes, CAPTIONS_STRIPES_UNFIT, CAPTIONS_UNBALANCED);
-    stripes = usual_stripes();
-    check_all_refused(&c, stripes, CAPTIONS_UNBALANCED, CAPTIONS_UNBALANCED);
-    memset(laid, CAPTIONS_EMPTY, c.tapes_len);
-    check(draw(&c) == 0, "Draw: nothing is left to be refused");
-    new_record(stripes);
-    record.counters[1] = 1;
-    check_work_refused(&c, STRIPES, CAPTIONS_COUNTERS_UNSOUND, 0);
-    record.counters[1] = 0;
-    check_work_refused(&c, STRIPES, CAPTIONS_NO_SUCH_STRIPE, 0);
-    check(work(&c, 1, BUDGET) == 0, "Work: nothing is left to be refused");
-}
-
-static void check_stacks(void)
-{
-    check_one_tape();
-    check_stack_lines();
-    check_above_the_picture();
-    check_full_stack();
-    check_stack_refusals();
-    check_long_stacks();
-    check_stack_places();
-    check_order();
-}
-
 int main(void)
 {
     check_wrap();
@@ -1334,7 +1023,6 @@ int main(void)
     check_no_stripes();
     check_counters_of_counts();
     check_equal_stripes();
-    check_stacks();
     if (failed > 0) {
         fprintf(stderr, "%d checks failed\n", failed);
         return 1;

@@ -2,8 +2,8 @@
 
 mod common;
 
-use captions::{Align, Cause, GlyphMode, Line, Settings, Workspace, draw, wrap};
-use common::{PAINT, painted, plain, refusal, tape};
+use captions::{Align, Cause, GlyphMode, Line, Refusal, Settings, Workspace, draw, wrap};
+use common::{PAINT, painted, plain, tape};
 
 /// The lines of a tape, each its letters' numbers and its columns.
 fn lines(tape: &[u8], limit: u32) -> Vec<(Vec<u16>, u16)> {
@@ -52,15 +52,15 @@ fn case_g_an_empty_text_of_another_style_ends_a_run() {
 
 #[test]
 fn case_k_what_is_admitted() {
-    let refused = |tape: &[u8]| {
-        let refusal = wrap(tape, &mut Workspace::new(), 4).unwrap_err();
-        (refusal.cause.number(), refusal.place)
+    let refusal = |tape: &[u8]| {
+        let Refusal { cause, place } = wrap(tape, &mut Workspace::new(), 4).unwrap_err();
+        (cause.number(), place)
     };
-    assert_eq!(refused(&[6]), (3, 1));
-    assert_eq!(refused(&[0]), (3, 0));
-    assert_eq!(refused(&[2]), (2, 0));
-    assert_eq!(refused(&[4, 0x00, 0xD8, 0x00]), (4, 0));
-    assert_eq!(refused(&[0x0C]), (1, 0));
+    assert_eq!(refusal(&[6]), (3, 1));
+    assert_eq!(refusal(&[0]), (3, 0));
+    assert_eq!(refusal(&[2]), (2, 0));
+    assert_eq!(refusal(&[4, 0x00, 0xD8, 0x00]), (4, 0));
+    assert_eq!(refusal(&[0x0C]), (1, 0));
     assert_eq!(lines(&[4, 0x10, 0xFF, 0xFF], 4), [(vec![0], 1)]);
 }
 
@@ -291,7 +291,13 @@ fn a_refused_draw_leaves_the_picture() {
         &mut Workspace::new(),
         &mut picture,
     );
-    assert_eq!(answer, Err(refusal(Cause::Unbalanced, 2)));
+    assert_eq!(
+        answer,
+        Err(Refusal {
+            cause: Cause::Unbalanced,
+            place: 2
+        })
+    );
     assert_eq!(picture, painted(&settings, 0));
 }
 
@@ -347,7 +353,10 @@ fn the_largest_numbers_are_taken_or_refused() {
         ..Settings::new(u32::MAX, u32::MAX)
     };
     assert!(largest.new_picture().is_empty());
-    let refused = refusal(Cause::OutOfRange, 0);
+    let refused = Refusal {
+        cause: Cause::OutOfRange,
+        place: 0,
+    };
     assert_eq!(
         draw(&largest, &[], &mut Workspace::new(), &mut []),
         Err(refused)

@@ -2,8 +2,8 @@
 
 mod common;
 
-use captions::{Align, Cause, GlyphMode, Job, Settings, Stripes, Workspace, draw, wrap};
-use common::{PAINT, Random, equal, painted, plain, refusal, tape};
+use captions::{Align, Cause, GlyphMode, Job, Refusal, Settings, Stripes, Workspace, draw, wrap};
+use common::{PAINT, Random, equal, painted, plain, tape};
 
 const AFTER: usize = 8;
 
@@ -304,7 +304,13 @@ fn refused_work_leaves_picture_and_counters() {
     let before = job.picture().to_vec();
     for stripe in [6, 63, 64, 65, u32::MAX] {
         let answer = job.work(&mut Workspace::new(), stripe, 7);
-        assert_eq!(answer, Err(refusal(Cause::NoSuchStripe, 0)));
+        assert_eq!(
+            answer,
+            Err(Refusal {
+                cause: Cause::NoSuchStripe,
+                place: 0
+            })
+        );
     }
     assert_eq!(job.picture(), before);
     let done: Vec<u32> = (0..7).map(|stripe| job.done(stripe)).collect();
@@ -325,12 +331,18 @@ fn a_refused_open_leaves_the_picture() {
     for other in [64, 66, 0] {
         assert_eq!(
             refused(&[2, b'A'], Stripes::of_height(other, 8).unwrap()),
-            refusal(Cause::StripesUnfit, 0)
+            Refusal {
+                cause: Cause::StripesUnfit,
+                place: 0
+            }
         );
     }
     assert_eq!(
         refused(&[2, b'A', 12], Stripes::of_height(65, 2).unwrap()),
-        refusal(Cause::UnknownCommand, 2)
+        Refusal {
+            cause: Cause::UnknownCommand,
+            place: 2
+        }
     );
     assert_eq!(picture, painted(&settings, AFTER));
 }

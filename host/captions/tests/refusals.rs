@@ -1,11 +1,10 @@
-//! Every refusal of calls on one tape, 1 to 14: by the wrapper where it can be reached, else by `raw`.
-//! What a stack is refused for stands in `stack_refusals.rs`.
+//! Every refusal, 1 to 14: by the wrapper where it can be reached, else by `raw`.
 
 mod common;
 
 use captions::raw::{self, Buffers, Record};
 use captions::{Cause, Job, Refusal, Result, Settings, Stripes, Workspace, draw, wrap};
-use common::{PAINT, plain, raw_plain, record, refusal, tape};
+use common::{PAINT, plain, record, tape};
 
 /// A tape at fault, why it is refused, and the place.
 fn faults() -> Vec<(Vec<u8>, Cause, usize)> {
@@ -55,7 +54,7 @@ fn refusals(settings: &Settings, tape: &[u8], bytes: usize) -> [Refusal; 2] {
 fn a_tape_at_fault_is_refused_by_every_call() {
     let settings = plain(32, 32);
     for (tape, cause, place) in faults() {
-        let due = refusal(cause, place);
+        let due = Refusal { cause, place };
         assert_eq!(wrap(&tape, &mut Workspace::new(), 4), Err(due));
         assert_eq!(refusals(&settings, &tape, 32 * 32 * 4), [due; 2]);
         assert_eq!(cause.is_in_tape(), cause != Cause::TapeTooLong);
@@ -79,7 +78,10 @@ fn tapes_at_the_limits_are_admitted() {
 
 #[test]
 fn number_8_a_setting() {
-    let due = refusal(Cause::OutOfRange, 0);
+    let due = Refusal {
+        cause: Cause::OutOfRange,
+        place: 0,
+    };
     let good = plain(8, 8);
     let over = [
         Settings {
@@ -148,7 +150,10 @@ fn number_8_a_house_setting() {
 /// The wrapper's constants are the ends of the ranges.
 #[test]
 fn number_8_a_house_setting_by_the_wrapper() {
-    let due = refusal(Cause::OutOfRange, 0);
+    let due = Refusal {
+        cause: Cause::OutOfRange,
+        place: 0,
+    };
     let good = plain(8, 8);
     let with = |side_margin_px, slant, outline_cap_px| Settings {
         side_margin_px,
@@ -178,7 +183,10 @@ fn number_8_a_house_setting_by_the_wrapper() {
 
 #[test]
 fn number_8_a_column_limit_an_alignment_or_a_glyph_mode() {
-    let due = refusal(Cause::OutOfRange, 0);
+    let due = Refusal {
+        cause: Cause::OutOfRange,
+        place: 0,
+    };
     for limit in [0, captions::COLUMNS_MAX + 1] {
         assert_eq!(wrap(&[12], &mut Workspace::new(), limit), Err(due));
     }
@@ -203,7 +211,10 @@ fn number_8_a_column_limit_an_alignment_or_a_glyph_mode() {
 
 #[test]
 fn number_9_a_short_picture() {
-    let due = refusal(Cause::PictureTooShort, 0);
+    let due = Refusal {
+        cause: Cause::PictureTooShort,
+        place: 0,
+    };
     assert_eq!(refusals(&plain(8, 8), &[12], 8 * 8 * 4 - 1), [due; 2]);
     assert_eq!(refusals(&plain(8, 8), &[12; 16_385], 0), [due; 2]);
 }
@@ -212,7 +223,10 @@ fn number_9_a_short_picture() {
 fn numbers_12_and_13_stripes() {
     let settings = plain(4, 65);
     let mut picture = settings.new_picture();
-    let due = refusal(Cause::StripesUnfit, 0);
+    let due = Refusal {
+        cause: Cause::StripesUnfit,
+        place: 0,
+    };
     assert_eq!(job(&settings, &[12], &mut picture, 0), Err(due));
     assert_eq!(job(&settings, &[12], &mut picture, 1), Err(due));
     let workspace = &mut Workspace::new();
@@ -221,19 +235,34 @@ fn numbers_12_and_13_stripes() {
     assert_eq!(open.work(workspace, 32, 1), Ok(0));
     assert_eq!(
         open.work(workspace, 33, 1),
-        Err(refusal(Cause::NoSuchStripe, 0))
+        Err(Refusal {
+            cause: Cause::NoSuchStripe,
+            place: 0
+        })
     );
 }
 
 /// A picture of 8 by 16, white letters and no outline.
-const PLAIN: raw::Settings = raw_plain(8, 16);
+const PLAIN: raw::Settings = raw::Settings {
+    width: 8,
+    height: 16,
+    default_color: 0xFFFF_FFFF,
+    outline_color: 0x0000_00FF,
+    line_height: 16,
+    bottom_margin: 0,
+    outline: 0,
+    alignment: 1,
+    glyph_mode: 0,
+    side_margin: 8,
+    slant: 2,
+    outline_cap: 2,
+};
 
 fn raw_draw(settings: raw::Settings, tape: &[u8], room: usize) -> u64 {
     let mut workspace = vec![PAINT; room];
     let mut picture = vec![PAINT; 8 * 16 * 4];
     let buffers = Buffers {
-        tapes: tape,
-        tape_ends: &[tape.len() as u32],
+        tape,
         workspace: &mut workspace,
         picture: &mut picture,
     };
@@ -250,8 +279,7 @@ fn raw_open(settings: raw::Settings, tape: &[u8], stripe_height: u32) -> (u64, R
     let mut record = ANY;
     let mut picture = vec![PAINT; 8 * 16 * 4];
     let buffers = Buffers {
-        tapes: tape,
-        tape_ends: &[tape.len() as u32],
+        tape,
         workspace: &mut vec![PAINT; 65_536],
         picture: &mut picture,
     };
@@ -272,8 +300,7 @@ fn raw_work_with(settings: raw::Settings, record: &mut Record, room: usize, stri
     let mut workspace = vec![PAINT; room];
     let mut picture = vec![PAINT; 8 * 16 * 4];
     let buffers = Buffers {
-        tapes: &[2, b'A'],
-        tape_ends: &[2],
+        tape: &[2, b'A'],
         workspace: &mut workspace,
         picture: &mut picture,
     };
@@ -344,21 +371,15 @@ fn every_refusal_says_its_cause() {
         "no such stripe",
         "ends do not rise",
         "counter",
-        "no tape or more than 8",
         "unknown",
     ];
-    let causes = Cause::ALL.into_iter().chain([Cause::Unknown(99)]);
-    assert_eq!(causes.clone().count(), words.len());
-    for (cause, due) in causes.zip(words) {
+    let causes = (1..=14).map(Cause::of).chain([Cause::Unknown(99)]);
+    for (number, cause) in (1..).zip(causes) {
         let sentence = cause.sentence();
         let told = words.iter().filter(|words| sentence.contains(**words));
-        assert_eq!(told.collect::<Vec<_>>(), [&due], "{sentence}");
-        let place = if cause.number() <= 7 {
-            " at byte 3"
-        } else {
-            ""
-        };
+        assert_eq!(told.collect::<Vec<_>>(), [&words[number - 1]], "{sentence}");
+        let place = if number <= 7 { " at byte 3" } else { "" };
         let due = format!("refused {}{place}: {sentence}", cause.number());
-        assert_eq!(refusal(cause, 3).to_string(), due);
+        assert_eq!(Refusal { cause, place: 3 }.to_string(), due);
     }
 }

@@ -4,9 +4,9 @@ mod common;
 
 use captions::raw::{self, Buffers};
 use captions::{
-    Cause, Job, RECORD_BYTES, Record, Result, Settings, Stack, WORKSPACE_BYTES, Workspace, draw,
+    Cause, Job, RECORD_BYTES, Record, Refusal, Result, Settings, WORKSPACE_BYTES, Workspace, draw,
 };
-use common::{PAINT, Random, equal, painted, plain, raw_plain, record, refusal, tape};
+use common::{PAINT, Random, equal, painted, plain, raw_plain, record, tape};
 
 const AFTER: usize = 8;
 
@@ -37,18 +37,13 @@ impl Stored {
 
     /// Resumes the job with nothing but what was stored, in a workspace that held other bytes, lets
     /// it be worked on, and stores it again.
-    fn resumed<'a>(
-        &self,
-        settings: &Settings,
-        tapes: impl Into<Stack<'a>>,
-        work: impl FnOnce(&mut Job),
-    ) -> Stored {
-        let (stack, workspace) = (tapes.into(), &mut Workspace::new());
-        let other = tape("other letters");
+    fn resumed(&self, settings: &Settings, tape: &[u8], work: impl FnOnce(&mut Job)) -> Stored {
+        let workspace = &mut Workspace::new();
+        let other = [tape, tape].concat();
         draw(settings, &other, workspace, &mut self.picture.clone()).expect("it is admitted");
         let mut picture = self.picture.clone();
         let record = Record::from_bytes(&self.record);
-        let resumed = Job::resume(settings, &stack, workspace, &mut picture, &record);
+        let resumed = Job::resume(settings, tape, workspace, &mut picture, &record);
         let mut job = resumed.expect("a job has the record");
         assert_eq!(Stored::of(&job), *self); // resuming changes nothing
         work(&mut job);
@@ -56,11 +51,11 @@ impl Stored {
     }
 }
 
-fn opened<'a>(settings: &Settings, tapes: impl Into<Stack<'a>>, stripe_height: u32) -> Stored {
-    let (stack, workspace) = (tapes.into(), &mut Workspace::new());
+fn opened(settings: &Settings, tape: &[u8], stripe_height: u32) -> Stored {
+    let workspace = &mut Workspace::new();
     let mut picture = painted(settings, AFTER);
     let stripes = equal(settings, stripe_height);
-    let job = Job::open(settings, &stack, workspace, &mut picture, &stripes);
+    let job = Job::open(settings, tape, workspace, &mut picture, &stripes);
     Stored::of(&job.expect("it is admitted"))
 }
 
@@ -84,48 +79,28 @@ fn finish(job: &mut Job) {
 #[test]
 fn a_job_interrupted_anywhere_goes_on_as_if_it_had_never_stopped() {
     let (settings, tape, total) = cue();
-    interrupted(&settings, &Stack::from(&tape), total);
-}
-
-/// Its tapes have 3, 0, 2 and 4 letters with ink.
-#[test]
-fn a_job_on_a_stack_goes_on_likewise() {
-    let settings = Settings {
-        height: 60,
-        ..cue().0
-    };
-    let tapes = [
-        tape("gh\nJ"),
-        tape(" \n"),
-        tape("K\u{100}"),
-        tape("l\nM n o"),
-    ];
-    interrupted(&settings, &Stack::from(tapes), 9 * 9);
-}
-
-fn interrupted(settings: &Settings, tapes: &Stack, total: u32) {
-    let mut due = painted(settings, AFTER);
-    draw(settings, tapes, &mut Workspace::new(), &mut due).expect("it is admitted");
+    let mut due = painted(&settings, AFTER);
+    draw(&settings, &tape, &mut Workspace::new(), &mut due).expect("it is admitted");
     for seed in 0..60 {
         let random = &mut Random(seed);
         let stripe_height = 1 + random.under(45);
-        let mut picture = painted(settings, AFTER);
+        let mut picture = painted(&settings, AFTER);
         let workspace = &mut Workspace::new();
-        let stripes = equal(settings, stripe_height);
+        let stripes = equal(&settings, stripe_height);
         let mut never_stopped =
-            Job::open(settings, tapes, workspace, &mut picture, &stripes).unwrap();
-        let mut stored = opened(settings, tapes, stripe_height);
+            Job::open(&settings, &tape, workspace, &mut picture, &stripes).unwrap();
+        let mut stored = opened(&settings, &tape, stripe_height);
         for stop in 0..12 {
             let seed = 1000 * seed + stop;
             some_work(&mut Random(seed), &mut never_stopped);
-            stored = stored.resumed(settings, tapes, |job| {
+            stored = stored.resumed(&settings, &tape, |job| {
                 assert_eq!(job.total(), total);
                 assert_eq!(job.stripes(), never_stopped.stripes());
                 some_work(&mut Random(seed), job);
             });
             assert_eq!(stored, Stored::of(&never_stopped), "seed {seed}");
         }
-        stored = stored.resumed(settings, tapes, finish);
+        stored = stored.resumed(&settings, &tape, finish);
         assert_eq!(stored.picture, due, "seed {seed}");
         let record = Record::from_bytes(&stored.record);
         let count = stripes.count() as usize;
@@ -213,7 +188,7 @@ fn refused(settings: &Settings, tape: &[u8], bytes: usize, record: &Record) -> R
 }
 
 fn because<T>(cause: Cause) -> Result<T> {
-    Err(refusal(cause, 0))
+    Err(Refusal { cause, place: 0 })
 }
 
 /// A record with this counter.
@@ -343,7 +318,7 @@ fn numbers_1_to_7_a_tape_at_fault() {
     ];
     for (tape, cause, place) in faults {
         let say = |record: &Record| refused(&settings, tape, 48 * 41 * 4, record);
-        let due = Err(refusal(cause, place));
+        let due = Err(Refusal { cause, place });
         assert_eq!(say(&record(41, 8)), due);
         // The stripes come before the tape, the counters after it.
         assert_eq!(say(&record(41, 0)), because(Cause::StripesUnfit));
@@ -373,7 +348,10 @@ fn a_picture_without_rows_has_its_records_too() {
         let unsound = say(&tape, &counted(Record::ZEROS, stripe, 1));
         assert_eq!(unsound, because(Cause::CountersUnsound));
     }
-    let due = refusal(Cause::UnknownCommand, 1);
+    let due = Refusal {
+        cause: Cause::UnknownCommand,
+        place: 1,
+    };
     assert_eq!(say(&[5, 12], &Record::ZEROS), Err(due));
 }
 
@@ -409,8 +387,7 @@ fn refused_by_work(tape: &[u8], mut record: Record) -> u32 {
         ..raw_plain(48, 41)
     };
     let buffers = Buffers {
-        tapes: tape,
-        tape_ends: &[tape.len() as u32],
+        tape,
         workspace: &mut [0; WORKSPACE_BYTES],
         picture: &mut [0; 48 * 41 * 4],
     };

@@ -1,8 +1,7 @@
 /*
- * How much of the call stack a call uses, held to CAPTIONS_STACK_BYTES: each is made on a thread
- * whose call stack was painted, and the deepest byte that lost its paint tells. The tapes are the
- * most demanding ones: lists as deep as may be around as many letters as fit, alone and as many as
- * may be.
+ * How much stack a call uses, held to CAPTIONS_STACK_BYTES: each is made on a thread whose stack
+ * was painted, and the deepest byte that lost its paint tells. The tapes are the most demanding
+ * ones: lists as deep as may be around as many letters as fit.
  */
 #define _POSIX_C_SOURCE 200809L
 #include "captions.h"
@@ -27,10 +26,8 @@ enum {
 static uint8_t *stack;
 static const uint8_t *entered; /* where the thread's function stands in its stack */
 
-static uint8_t tapes[CAPTIONS_TAPES_MAX * CAPTIONS_TAPE_MAX];
-static uint32_t tape_ends[CAPTIONS_TAPES_MAX];
-static size_t tape_len; /* of each: they are all alike */
-static size_t tape_count;
+static uint8_t tape[CAPTIONS_TAPE_MAX];
+static size_t tape_len;
 static uint8_t workspace[CAPTIONS_WORKSPACE_MIN];
 static uint8_t picture[SIDE * SIDE * 4];
 static captions_settings settings;
@@ -41,27 +38,25 @@ static uint64_t answer;
 
 static void call_wrap(void)
 {
-    answer = captions_wrap(tapes, tape_len, workspace, sizeof workspace, column_limit);
+    answer = captions_wrap(tape, tape_len, workspace, sizeof workspace, column_limit);
 }
 
 static void call_draw(void)
 {
-    answer = captions_draw(&settings, tapes, tape_count * tape_len, tape_ends, tape_count,
-                           workspace, sizeof workspace, picture, sizeof picture);
+    answer = captions_draw(&settings, tape, tape_len, workspace, sizeof workspace,
+                           picture, sizeof picture);
 }
 
 static void call_open(void)
 {
-    answer = captions_open(&settings, tapes, tape_count * tape_len, tape_ends, tape_count,
-                           workspace, sizeof workspace, picture, sizeof picture,
-                           &stripes, &record);
+    answer = captions_open(&settings, tape, tape_len, workspace, sizeof workspace,
+                           picture, sizeof picture, &stripes, &record);
 }
 
 static void call_work(void)
 {
-    answer = captions_work(&settings, tapes, tape_count * tape_len, tape_ends, tape_count,
-                           workspace, sizeof workspace, picture, sizeof picture,
-                           &record, CAPTIONS_STRIPES_MAX / 2, BUDGET);
+    answer = captions_work(&settings, tape, tape_len, workspace, sizeof workspace,
+                           picture, sizeof picture, &record, CAPTIONS_STRIPES_MAX / 2, BUDGET);
 }
 
 struct call {
@@ -118,7 +113,7 @@ static void measure(struct call *call)
 
 static void put(unsigned byte)
 {
-    tapes[tape_len++] = (uint8_t)byte;
+    tape[tape_len++] = (uint8_t)byte;
 }
 
 static void put_opener(unsigned command)
@@ -153,14 +148,9 @@ static void make_tape(const uint8_t *openers, size_t count)
     for (size_t i = 0; i < DEPTH; i++) {
         put(CAPTIONS_END);
     }
-    tape_ends[0] = captions_one_tape(tape_len);
-    for (size_t i = 1; i < CAPTIONS_TAPES_MAX; i++) {
-        memcpy(tapes + i * tape_len, tapes, tape_len);
-        tape_ends[i] = tape_ends[i - 1] + tape_ends[0];
-    }
 }
 
-static void measure_calls(uint32_t width)
+static void measure_tape(uint32_t width)
 {
     settings = captions_settings_usual(width, SIDE);
     settings.default_color = 0x11223380;
@@ -170,10 +160,8 @@ static void measure_calls(uint32_t width)
     settings.outline_cap = CAPTIONS_OUTLINE_CAP_MAX;
     stripes = captions_stripes_of_height(SIDE, STRIPE_HEIGHT);
     column_limit = width / 8;
-    for (tape_count = 1; tape_count <= CAPTIONS_TAPES_MAX; tape_count += CAPTIONS_TAPES_MAX - 1) {
-        for (size_t i = 0; i < CALLS; i++) {
-            measure(&calls[i]);
-        }
+    for (size_t i = 0; i < CALLS; i++) {
+        measure(&calls[i]);
     }
 }
 
@@ -188,9 +176,9 @@ int main(void)
     stack = (uint8_t *)memory;
     for (size_t first = 0; first < sizeof openers; first++) {
         make_tape(openers + first, 1);
-        measure_calls(SIDE);
+        measure_tape(SIDE);
         make_tape(openers, sizeof openers - first);
-        measure_calls(8);
+        measure_tape(8);
     }
     int wrong = 0;
     for (size_t i = 0; i < CALLS; i++) {

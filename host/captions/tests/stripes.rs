@@ -55,7 +55,6 @@ fn with_unused(ends: &[u32], unused: u32) -> raw::Stripes {
 const UNFIT: Refusal = Refusal {
     cause: Cause::StripesUnfit,
     place: 0,
-    in_tape: None,
 };
 
 /// What a call on a picture of a height is given, and what it leaves.
@@ -90,8 +89,7 @@ impl Call<'_> {
         let before = self.picture.clone();
         let mut workspace = vec![PAINT; self.room];
         let buffers = Buffers {
-            tapes: self.tape,
-            tape_ends: &[self.tape.len() as u32],
+            tape: self.tape,
             workspace: &mut workspace,
             picture: &mut self.picture,
         };

@@ -2,7 +2,7 @@
 
 pub const USAGE: &str = "\
 usage: compare [--pictures N] [--tapes N] [--cues N] [--frames N] [--jobs N] [--house-frames N]
-               [--stripe-jobs N] [--stacks N] [--seed S]
+               [--stripe-jobs N] [--seed S]
                                 compare the proved crates with the original
        compare specimen         write what the original draws for U+0000 to U+0100
        compare sample           write the tapes that the program `letters` reads
@@ -38,35 +38,22 @@ pub struct Extent {
     pub jobs: u64,
     pub house_frames: u64,
     pub stripe_jobs: u64,
-    pub stacks: u64,
     pub seed: u64,
 }
 
 /// The command that the words ask for, or `None` where they are none.
 pub fn parse(words: &[String]) -> Option<Command> {
     match words {
-        [word] => named(word),
-        _ => extent(words).map(Command::Compare),
+        [word] if word == "specimen" => return Some(Command::Specimen),
+        [word] if word == "sample" => return Some(Command::Sample),
+        [word] if word == "sample-answers" => return Some(Command::SampleAnswers),
+        [word] if word == "lines-sample" => return Some(Command::LinesSample),
+        [word] if word == "lines-sample-answers" => return Some(Command::LinesSampleAnswers),
+        [word] if word == "draw-sample" => return Some(Command::DrawSample),
+        [word] if word == "draw-sample-answers" => return Some(Command::DrawSampleAnswers),
+        [word] if word == "speed" => return Some(Command::Speed),
+        _ => {}
     }
-}
-
-/// The command of one word.
-fn named(word: &str) -> Option<Command> {
-    Some(match word {
-        "specimen" => Command::Specimen,
-        "sample" => Command::Sample,
-        "sample-answers" => Command::SampleAnswers,
-        "lines-sample" => Command::LinesSample,
-        "lines-sample-answers" => Command::LinesSampleAnswers,
-        "draw-sample" => Command::DrawSample,
-        "draw-sample-answers" => Command::DrawSampleAnswers,
-        "speed" => Command::Speed,
-        _ => return None,
-    })
-}
-
-/// The extent that names and numbers in turn ask for.
-fn extent(words: &[String]) -> Option<Extent> {
     let mut extent = Extent {
         pictures: 200_000,
         tapes: 200_000,
@@ -75,7 +62,6 @@ fn extent(words: &[String]) -> Option<Extent> {
         jobs: 50_000,
         house_frames: 100_000,
         stripe_jobs: 50_000,
-        stacks: 50_000,
         seed: 1,
     };
     let (pairs, rest) = words.as_chunks::<2>();
@@ -88,10 +74,9 @@ fn extent(words: &[String]) -> Option<Extent> {
             "--jobs" => extent.jobs = value.parse().ok()?,
             "--house-frames" => extent.house_frames = value.parse().ok()?,
             "--stripe-jobs" => extent.stripe_jobs = value.parse().ok()?,
-            "--stacks" => extent.stacks = value.parse().ok()?,
             "--seed" => extent.seed = value.parse().ok()?,
             _ => return None,
         }
     }
-    rest.is_empty().then_some(extent)
+    rest.is_empty().then_some(Command::Compare(extent))
 }

@@ -1,7 +1,5 @@
 //! Counts the checks of one kind and shows the first few that fail.
 
-use crate::random::Random;
-
 /// How many failures of each kind are shown in detail.
 const SHOWN: u64 = 5;
 
@@ -29,20 +27,6 @@ impl Count {
         self.failed += 1;
         if self.failed <= SHOWN {
             println!("{}: {found}", self.kind);
-        }
-    }
-
-    /// Counts so many random cases, whose numbers `apart` sets apart from others of the same seed.
-    pub fn each(
-        &mut self,
-        seed: u64,
-        apart: u64,
-        cases: u64,
-        mut case: impl FnMut(&mut Random) -> Result<(), String>,
-    ) {
-        for number in 0..cases {
-            let found = case(&mut Random::new(seed ^ apart, number));
-            self.check(found.map_err(|found| format!("seed {seed}, case {number}: {found}")));
         }
     }
 

@@ -1,46 +1,16 @@
 //! Bytes that stand between two fences, so that a write outside the part lent is seen.
 
 use crate::random::Random;
-use std::hint::black_box;
 use std::ops::Range;
 
 /// The bytes of a fence beside a workspace.
 const BESIDE: usize = 4096;
-/// What stands on each side of numbers that are lent.
-pub const POSTS: [u32; 16] = [0x5eed_fe4c; 16];
 
 pub struct Fenced {
     bytes: Vec<u8>,
     /// The bytes as they were before the last call.
     before: Vec<u8>,
     inside: Range<usize>,
-}
-
-/// Numbers that a call reads, between posts.
-pub struct Posted {
-    numbers: Vec<u32>,
-    before: Vec<u32>,
-}
-
-impl Posted {
-    pub fn new(numbers: &[u32]) -> Posted {
-        let numbers = [&POSTS[..], numbers, &POSTS].concat();
-        Posted {
-            before: numbers.clone(),
-            numbers,
-        }
-    }
-
-    pub fn lend(&mut self) -> &[u32] {
-        let inside = POSTS.len()..self.numbers.len() - POSTS.len();
-        // So that what the call might write is looked at.
-        &black_box(&mut self.numbers)[inside]
-    }
-
-    /// Whether each number and each post is as before.
-    pub fn kept(&self) -> bool {
-        self.numbers == self.before
-    }
 }
 
 /// What a call did with the bytes lent to it.

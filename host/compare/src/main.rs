@@ -10,12 +10,10 @@ mod font;
 mod hex;
 mod house;
 mod inkless;
-mod kinds;
 mod proved;
 mod random;
 mod refusal;
 mod sample;
-mod stack;
 mod stripes;
 mod tape;
 mod timing;
@@ -59,7 +57,13 @@ fn main() -> ExitCode {
             let answers = draw::sample::answers(&original) + &work::sample::answers(&original);
             write(answers.as_bytes())
         }
-        Command::Speed => write(speed(&original).as_bytes()),
+        Command::Speed => {
+            let tables = tape::speed::table(&original)
+                + &wrap::speed::table(&original)
+                + &draw::speed::tables(&original)
+                + &work::speed::tables();
+            write(tables.as_bytes())
+        }
     }
 }
 
@@ -74,7 +78,6 @@ fn compare(original: &Original, extent: Extent) -> ExitCode {
     counts.extend(work::compare(original, seed, extent.jobs));
     counts.extend(house::compare(original, seed, extent.house_frames));
     counts.extend(stripes::compare(original, seed, extent.stripe_jobs));
-    counts.extend(stack::compare(original, seed, extent.stacks));
     let (mut passed, mut failed) = (0, 0);
     for count in &counts {
         count.show();
@@ -87,15 +90,6 @@ fn compare(original: &Original, extent: Extent) -> ExitCode {
     } else {
         ExitCode::FAILURE
     }
-}
-
-/// All tables of how long calls take.
-fn speed(original: &Original) -> String {
-    tape::speed::table(original)
-        + &wrap::speed::table(original)
-        + &draw::speed::tables(original)
-        + &work::speed::tables()
-        + &stack::speed::tables(original)
 }
 
 fn write(bytes: &[u8]) -> ExitCode {

@@ -15,7 +15,6 @@ mod uses;
 use part::{Declared, Part, Source};
 use std::fs;
 use std::path::Path;
-use uses::Origins;
 
 /// The text, from the repository's root.
 pub const FILE: &str = "deposit/definitions.txt";
@@ -35,7 +34,7 @@ const FOR_PLAYERS: [Chapter; 6] = [
     (
         "The tape",
         "tape",
-        &["Outcome", "Style", "Command", "Runs", "Tape", "Stack"],
+        &["Outcome", "Style", "Command", "Runs", "Tape"],
     ),
     ("Lines", "wrap", &["Columns", "Lines"]),
     (
@@ -53,7 +52,7 @@ const FOR_PLAYERS: [Chapter; 6] = [
 ];
 
 /// What stands behind the examples.
-const BEHIND: [Chapter; 18] = [
+const BEHIND: [Chapter; 17] = [
     ("Positions in signed numbers", "compositor", &["Plain"]),
     ("From segments to tapes", "tape", &["Segments"]),
     ("What lines keep", "wrap", &["Shown"]),
@@ -61,7 +60,6 @@ const BEHIND: [Chapter; 18] = [
     ("Glyph mode 1 by mode 0", "compositor", &["Replaced"]),
     ("Letters without ink", "compositor", &["Inkless"]),
     ("House settings", "compositor", &["House"]),
-    ("Two speakers", "compositor", &["Speakers"]),
     ("Stripes by their ends", "job", &["Ends"]),
     ("What a call answers and leaves", "tape", &["Call"]),
     ("What a call answers and leaves", "wrap", &["Wrapped"]),
@@ -86,9 +84,8 @@ pub fn gather(root: &Path) -> Result<String, String> {
     let [preface, notation, more, examples] =
         [PREFACE, NOTATION, MORE_NOTATION, EXAMPLES].map(|file| page(root, file));
     let (notation, more) = (notation?, more?);
-    let mut origins = Origins::new();
-    let players = parts(root, &FOR_PLAYERS, &mut origins)?;
-    let behind = parts(root, &[&BEHIND[..], &SIGNS[..]].concat(), &mut origins)?;
+    let players = parts(root, &FOR_PLAYERS)?;
+    let behind = parts(root, &[&BEHIND[..], &SIGNS[..]].concat())?;
     let parts: Vec<&Part> = players.iter().chain(&behind).collect();
     let signs = [notation.as_str(), more.as_str()].concat();
     check::all_there(root, &parts)?;
@@ -141,14 +138,14 @@ fn page(root: &Path, file: &str) -> Result<String, String> {
     Ok(text)
 }
 
-fn parts(root: &Path, chapters: &[Chapter], origins: &mut Origins) -> Result<Vec<Part>, String> {
+fn parts(root: &Path, chapters: &[Chapter]) -> Result<Vec<Part>, String> {
     let sources = chapters
         .iter()
         .flat_map(|(chapter, of, files)| files.iter().map(|file| Source { chapter, of, file }));
     sources
         .map(|source| {
             let text = read(root, &source.path())?;
-            Part::new(source, &text, origins)
+            Part::new(source, &text)
         })
         .collect()
 }

@@ -1,6 +1,6 @@
 //! One file of definitions.
 
-use crate::uses::{self, Origins, Use};
+use crate::uses::{self, Use};
 use crate::{check, signs};
 use std::collections::BTreeMap;
 
@@ -9,9 +9,6 @@ pub const COLUMNS: usize = 120;
 
 /// Said of names that are written with their part's name before them.
 const QUALIFIED: &str = "names written with its own before them";
-
-/// Said in heads for whoever looks for proofs.
-const ALONE: &str = " Definitions only.";
 
 /// Where a part comes from: the chapter that it is of, its crate and its file.
 pub struct Source {
@@ -54,23 +51,18 @@ pub struct Part {
 }
 
 impl Part {
-    pub fn new(source: Source, text: &str, origins: &mut Origins) -> Result<Part, String> {
-        let comment = |line: &str| line.trim_start().starts_with("--");
+    pub fn new(source: Source, text: &str) -> Result<Part, String> {
         let comments = text
             .lines()
-            .map(|line| if comment(line) { line } else { "" });
+            .filter(|line| line.trim_start().starts_with("--"));
         check::narrow(&source.path(), comments)?;
-        let head = text.lines().take_while(|line| line.starts_with("--"));
-        let head = head.map(|line| without_paper(&source.path(), line));
-        let head = joined(head.collect::<Result<Vec<_>, _>>()?.iter());
-        let taken = text
-            .lines()
-            .map(|line| uses::taken(source.file, line, origins));
-        let uses = taken.collect::<Result<Vec<_>, _>>()?.into_iter().flatten();
-        let uses = uses.collect();
+        let comment = text.lines().take_while(|line| line.starts_with("--"));
+        let head = joined(comment.map(without_paper)).replace(" Definitions only.", "");
+        let used = text.lines().filter_map(|line| line.strip_prefix("use "));
+        let uses = used.map(uses::parse).collect::<Result<_, _>>()?;
         let rest = text
             .lines()
-            .skip_while(|line| line.starts_with("--") || uses::is_use(line));
+            .skip_while(|line| line.starts_with("--") || line.starts_with("use "));
         let body = joined(rest.filter(|line| !is_for_the_prover(line)).map(plain));
         Ok(Part {
             source,
@@ -186,18 +178,11 @@ fn kinds(line: &str) -> Vec<&str> {
     }
 }
 
-/// A line of a head without the paragraph of the paper that it names: readers have no such paper. It
-/// ends with that, so that nothing of it goes on in the next line.
-fn without_paper(path: &str, line: &str) -> Result<String, String> {
-    let whole = line.strip_suffix(ALONE);
-    let line = whole.unwrap_or(line);
-    match (line.split_once(": document 0"), whole) {
-        (None, _) => Ok(line.to_owned()),
-        (Some((title, _)), Some(_)) => Ok(format!("{title}.")),
-        (Some(_), None) => Err(format!(
-            "{path}: its head names a paper in a line that does not end with `{}`",
-            ALONE.trim_start()
-        )),
+/// A line of a head without the paragraph of the paper that it names: readers have no such paper.
+fn without_paper(line: &str) -> String {
+    match line.split_once(": document 0") {
+        Some((title, _)) => format!("{title}."),
+        None => line.to_owned(),
     }
 }
 

@@ -77,7 +77,7 @@ fn sentence(row: &Row) -> String {
 fn the_tables_of_refusals() {
     let rows = table(&read(DEPOSIT));
     let numbers: Vec<u32> = rows.iter().map(|row| row.number).collect();
-    assert_eq!(numbers, Vec::from_iter((1..=14).chain([18])));
+    assert_eq!(numbers, Vec::from_iter(1..=14));
     assert!(rows.iter().all(|row| !row.because.is_empty()));
     assert_eq!(table(&read(README)), rows, "{README}");
 }
@@ -123,24 +123,23 @@ fn the_order_of_refusals() {
     let due = order(DEPOSIT);
     let words = due.split(|sign: char| !sign.is_ascii_digit());
     let numbers: Vec<u32> = words.filter_map(|word| word.parse().ok()).collect();
-    assert_eq!(numbers, [8, 9, 18, 10, 11, 13, 1, 7, 5, 2, 4, 6, 3, 14, 12]);
+    assert_eq!(numbers, [8, 9, 10, 11, 13, 1, 7, 5, 2, 4, 6, 3, 14, 12]);
     for file in [README, HEADER] {
         assert_eq!(order(file), due, "{file}");
     }
 }
 
 /// The files that docs/DEFINITIONS.md quotes from, and what it has to quote.
-const SPECS: [&str; 8] = [
+const SPECS: [&str; 7] = [
     "crates/font/specs/Upward.antt",
     "crates/compositor/specs/Replaced.antt",
     "crates/compositor/specs/Inkless.antt",
     "crates/compositor/specs/House.antt",
-    "crates/compositor/specs/Speakers.antt",
     "crates/job/specs/History.antt",
     "crates/job/specs/Ends.antt",
     "crates/captions/specs/HistoryInC.antt",
 ];
-const QUOTED: [&str; 17] = [
+const QUOTED: [&str; 15] = [
     "DrawnUpward",
     "RowsFromTheBottom",
     "DrawnReplaced",
@@ -149,8 +148,6 @@ const QUOTED: [&str; 17] = [
     "InklessLeftOut",
     "HouseOf",
     "HouseSettings",
-    "Stacking",
-    "TwoSpeakers",
     "PartlyDrawn",
     "Demand3",
     "Possible",

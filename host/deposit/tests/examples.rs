@@ -47,29 +47,9 @@ fn repeated<T: Clone>(words: &str, of: impl Fn(&str) -> Vec<T>) -> Vec<T> {
     words.split(" then ").flat_map(one).collect()
 }
 
-/// Bytes, so many times where that is said.
-fn bytes(words: &str) -> Vec<u8> {
+fn tape(words: &str) -> Vec<u8> {
     let byte = |word: &str| u8::from_str_radix(word, 16).expect("bytes are hexadecimal");
     repeated(words, |words| words.split_whitespace().map(byte).collect())
-}
-
-/// What stands before the ends of a stack's tapes.
-const ENDS: &str = "tape ends";
-
-/// The bytes of a tape, or of a stack's tapes.
-fn tape(example: &[&str]) -> Vec<u8> {
-    let lines = example.iter().filter(|line| !line.starts_with(ENDS));
-    let lines = lines.filter_map(|line| line.strip_prefix("tape"));
-    lines.flat_map(bytes).collect()
-}
-
-/// Where the tapes end; one tape where that is not told.
-fn tape_ends(example: &[&str], bytes: usize) -> Vec<u32> {
-    match behind(example, ENDS)[..] {
-        [] => vec![u32::try_from(bytes).expect("a tape is short")],
-        [words] => numbers(words),
-        _ => panic!("ends are told in one line"),
-    }
 }
 
 /// Numbers, of which `A to B` are all from A on up to B.
@@ -157,7 +137,8 @@ fn answer(word: &str, answer: u64) -> String {
 /// The lines that a call of Wrap leaves in its workspace, and the bytes themselves where they are told.
 fn lines(example: &[&str], limit: u32) -> String {
     let mut workspace = vec![0; room(example)];
-    let wrapped = raw::wrap(&tape(example), &mut workspace, limit);
+    let tape = tape(&behind(example, "tape").join(" "));
+    let wrapped = raw::wrap(&tape, &mut workspace, limit);
     let mut text = answer("lines", wrapped) + "\n";
     if wrapped >> 32 != 0 {
         return text;
@@ -199,8 +180,7 @@ fn picture_bytes(settings: &Settings) -> usize {
 /// A picture that is drawn whole, or in stripes; its buffer held other bytes before.
 struct Drawing {
     settings: Settings,
-    tapes: Vec<u8>,
-    tape_ends: Vec<u32>,
+    tape: Vec<u8>,
     room: usize,
     picture: Vec<u8>,
     record: Record,
@@ -210,11 +190,9 @@ impl Drawing {
     /// Workspace and buffer are as long as the example says, or else as they have to be.
     fn new(example: &[&str]) -> Drawing {
         let settings = settings(behind(example, "settings")[0]);
-        let tapes = tape(example);
         Drawing {
             settings,
-            tape_ends: tape_ends(example, tapes.len()),
-            tapes,
+            tape: tape(&behind(example, "tape").join(" ")),
             room: room(example),
             picture: vec![
                 0xaa;
@@ -231,8 +209,7 @@ impl Drawing {
 
     fn call(&mut self, call: impl FnOnce(&Settings, Buffers, &mut Record) -> u64) -> u64 {
         let buffers = Buffers {
-            tapes: &self.tapes,
-            tape_ends: &self.tape_ends,
+            tape: &self.tape,
             workspace: &mut vec![0; self.room],
             picture: &mut self.picture,
         };

@@ -131,21 +131,9 @@ faults! {
         contains("takes the name slope");
 
     a_name_from_a_part_that_comes_later: "crates/tape/specs/Outcome.antt",
-        "use Prim.Native.Nat.{ℕ, zero, suc, _+_}\n" =>
-            "use Prim.Native.Nat.{ℕ, zero, suc, _+_}\nuse Rattle·tape·specs.specs.Runs.{Run}\n",
+        "use Prim.Native.Nat.{ℕ, zero, suc}\n" =>
+            "use Prim.Native.Nat.{ℕ, zero, suc}\nuse Rattle·tape·specs.specs.Runs.{Run}\n",
         contains("Runs, which does not stand before it");
-
-    a_name_that_a_part_has_and_does_not_pass_on: "crates/compositor/specs/Draw.antt",
-        "pub use Rattle·tape.specs.Stack.{Tapes}" => "use Rattle·tape.specs.Stack.{Tapes}",
-        contains("takes the name Tapes");
-
-    a_name_that_is_passed_on_and_no_part_has: "crates/compositor/specs/Draw.antt",
-        "pub use Rattle·tape.specs.Stack.{Tapes}" => "pub use Rattle·tape.specs.Stack.{Tapes, Reels}",
-        contains("Draw takes the name Reels");
-
-    a_head_that_names_a_paper_in_two_lines: "crates/tape/specs/Stack.antt",
-        "S-9. Definitions only." => "S-9. Definitions\n-- only.",
-        contains("Stack.antt: its head names a paper");
 
     a_comment_that_leads_out_of_the_text: "crates/font/specs/Blend.antt",
         "-- the same, and" => "-- as proofs/PixelBlend has it, and",

@@ -51,16 +51,9 @@ pub fn told(settings: &crate::settings::Settings) -> Compositor {
 struct Strokes {
     window: std::ops::Range<usize>,
     met: std::cell::Cell<usize>,
-    /// How many lines of other cues stand below the cue (S-9).
-    below: usize,
 }
 
 impl Strokes {
-    /// The base line of the cue's last line, which is this one where no line stands below it.
-    fn raised(&self, last_baseline: i32, line_h: u32) -> i32 {
-        last_baseline - self.below as i32 * line_h as i32
-    }
-
     fn draw(
         &self,
         font: &BitmapFont,
@@ -85,33 +78,22 @@ impl Strokes {
 }
 
 /// Draws those strokes of a cue whose numbers, from 0 in the original's order, lie in the window,
-/// over what the buffer holds, where so many lines of other cues stand below. Answers how many strokes
-/// the cue has. The loop with the counter, which the build makes of the original's, stands below.
+/// over what the buffer holds. Answers how many strokes the cue has. The loop with the counter, which
+/// the build makes of the original's, stands below.
 pub fn draw_strokes(
     compositor: &Compositor,
     cue: &SubtitleCue,
-    below: usize,
     dst: &mut [u8],
     window: std::ops::Range<usize>,
 ) -> usize {
     let strokes = Strokes {
         window,
         met: Default::default(),
-        below,
     };
-    compositor.counted_bitmap(&strokes, cue, dst, said(cue));
-    strokes.met.get()
-}
-
-/// Draws a cue by the original's own loop, over what the buffer holds, which is not cleared.
-pub fn draw_over(compositor: &Compositor, cue: &SubtitleCue, dst: &mut [u8]) {
-    compositor.render_into_bitmap(cue, dst, said(cue));
-}
-
-/// The alignment that a cue says, or the one of a cue that says none.
-fn said(cue: &SubtitleCue) -> TextAlign {
     let said = cue.positioning.as_ref();
-    said.map_or(TextAlign::Center, |said| said.align)
+    let align = said.map_or(TextAlign::Center, |said| said.align);
+    compositor.counted_bitmap(&strokes, cue, dst, align);
+    strokes.met.get()
 }
 
 fn flatten_and_wrap(

@@ -134,36 +134,13 @@ impl Original {
         dst: &mut [u8],
         window: Range<usize>,
     ) -> usize {
-        self.draw_raised(settings, cue, 0, dst, window)
-    }
-
-    /// Draws them so where this many lines of other cues stand below the cue's own.
-    pub fn draw_raised(
-        &self,
-        settings: &Settings,
-        cue: &SubtitleCue,
-        below: usize,
-        dst: &mut [u8],
-        window: Range<usize>,
-    ) -> usize {
         fed(settings, cue, |cue| {
             if self.is_as_it_was(settings) {
-                compositor::draw_strokes(&compositor::told(settings), cue, below, dst, window)
+                compositor::draw_strokes(&compositor::told(settings), cue, dst, window)
             } else {
-                house::draw_strokes(&changed(settings), cue, below, dst, window)
+                house::draw_strokes(&changed(settings), cue, dst, window)
             }
         })
-    }
-
-    /// Draws a cue as `render_into` does, over what the buffer holds.
-    pub fn draw_over(&self, settings: &Settings, cue: &SubtitleCue, dst: &mut [u8]) {
-        fed(settings, cue, |cue| {
-            if self.is_as_it_was(settings) {
-                compositor::draw_over(&compositor::told(settings), cue, dst);
-            } else {
-                house::draw_over(&changed(settings), cue, dst);
-            }
-        });
     }
 
     /// Whether the original's text draws that nothing was changed in.

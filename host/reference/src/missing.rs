@@ -74,21 +74,4 @@ impl Original {
     ) -> usize {
         match *self {}
     }
-
-    /// Draws some of a cue's strokes over other lines, where the original is at hand.
-    pub fn draw_raised(
-        &self,
-        _settings: &Settings,
-        _cue: &SubtitleCue,
-        _below: usize,
-        _dst: &mut [u8],
-        _window: Range<usize>,
-    ) -> usize {
-        match *self {}
-    }
-
-    /// Draws a cue over other pictures, where the original is at hand.
-    pub fn draw_over(&self, _settings: &Settings, _cue: &SubtitleCue, _dst: &mut [u8]) {
-        match *self {}
-    }
 }

@@ -19,10 +19,7 @@ pub const SLANT_MAX: u32 = 8;
 /// The highest cap of the outline.
 pub const OUTLINE_CAP_MAX: u32 = 4;
 /// The columns of a cell.
-pub const CELL_WIDTH: u32 = 8;
-/// The rows of a cell, and how many of them are not above the base line.
-const CELL_HEIGHT: u32 = 16;
-const CELL_BELOW: u32 = 4;
+const CELL_WIDTH: u32 = 8;
 
 /// The house settings of document 02's S-10. In the original they are fixed.
 #[derive(Clone, Copy, Debug, PartialEq)]
@@ -76,25 +73,9 @@ impl Settings {
         (self.width / CELL_WIDTH).max(1) as usize
     }
 
-    /// How far its outline strokes are from a letter's own; 0 where there are none.
-    pub fn distance(&self) -> u32 {
-        self.outline.min(self.house.outline_cap)
-    }
-
     /// The strokes of one letter that has ink.
     pub fn strokes(&self) -> usize {
-        1 + 8 * self.distance() as usize
-    }
-
-    /// The rows from a line's base line to the next one's.
-    pub fn step(&self) -> u32 {
-        self.line_height.max(CELL_HEIGHT)
-    }
-
-    /// The base line of its lowest line.
-    pub fn lowest(&self) -> u32 {
-        let over_margin = self.height.saturating_sub(self.bottom_margin);
-        over_margin.saturating_sub(CELL_BELOW)
+        1 + 8 * self.outline.min(self.house.outline_cap) as usize
     }
 
     /// What a cue says so that the original aligns its lines so: center is said, or left unsaid.

@@ -1,4 +1,3 @@
-use Rattle.tape.specs.Lent.{handed}
 use Rattle.compositor.specs.Drawn.{Drawn}
 use Rattle.captions.specs.Interface.{settings_of}
 use Rattle.captions.proofs.Packing.{draw_packs}
@@ -8,9 +7,8 @@ use Rattle.captions.proofs.captions_draw.Tie as tie
 
 -- the call, on the settings that the numbers stand for
 drawn : (q : tie.After-render-into) →
-    let a = q.before.before.before.before.before.before.before.before.before.args in
-    Drawn (settings_of a.settings.now) (handed a.tapes.now a.tape-ends.now) a.workspace.now q.render-into.new.1.1.1.0 a.picture.now
-    q.render-into.new.1.1.1.1.0 q.render-into.result
+    let a = q.before.before.before.before.before.before.before.before.args in
+    Drawn (settings_of a.settings.now) a.tape.now a.workspace.now q.render-into.new.1.1.0 a.picture.now q.render-into.new.1.1.1.0 q.render-into.result
 drawn q =
     let after-settings-of = q.before.before.before in
     rw after-settings-of.settings-of.ensures at q.render-into.ensures

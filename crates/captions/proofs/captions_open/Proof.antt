@@ -1,4 +1,3 @@
-use Rattle.tape.specs.Lent.{handed}
 use Rattle.job.specs.Stripes.{division_of}
 use Rattle.job.specs.Worked.{Opened}
 use Rattle.captions.specs.Interface.{settings_of, stripes_of}
@@ -9,9 +8,8 @@ use Rattle.captions.proofs.captions_open.Tie as tie
 
 -- the call, on the settings and the stripes that the numbers stand for
 opened : (q : tie.After-open) →
-    let a = q.before.before.before.before.before.before.before.before.before.before.before.args in
-    Opened (settings_of a.settings.now) (handed a.tapes.now a.tape-ends.now) a.workspace.now q.«open».new.1.1.1.0 a.picture.now
-    q.«open».new.1.1.1.1.0
+    let a = q.before.before.before.before.before.before.before.before.before.before.args in
+    Opened (settings_of a.settings.now) a.tape.now a.workspace.now q.«open».new.1.1.0 a.picture.now q.«open».new.1.1.1.0
     (division_of (stripes_of a.stripes.now)) q.«open».result
 opened q =
     let after-stripes-of = q.before.before.before in

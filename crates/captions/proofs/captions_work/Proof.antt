@@ -1,4 +1,3 @@
-use Rattle.tape.specs.Lent.{handed}
 use Rattle.job.specs.Worked.{Worked}
 use Rattle.captions.specs.Interface.{settings_of, record_of}
 use Rattle.captions.proofs.Packing.{work_packs}
@@ -8,8 +7,8 @@ use Rattle.captions.proofs.captions_work.Tie as tie
 
 -- the call, on the settings and the record that the numbers stand for
 worked : (q : tie.After-work) →
-    let a = q.before.before.before.before.before.before.before.before.before.before.before.args in
-    Worked (settings_of a.settings.now) (handed a.tapes.now a.tape-ends.now) a.workspace.now q.work.new.1.1.1.0 a.picture.now q.work.new.1.1.1.1.0
+    let a = q.before.before.before.before.before.before.before.before.before.before.args in
+    Worked (settings_of a.settings.now) a.tape.now a.workspace.now q.work.new.1.1.0 a.picture.now q.work.new.1.1.1.0
     (record_of a.«record».now) a.stripe a.budget q.work.result
 worked q =
     let after-record-of = q.before.before.before in

@@ -4,21 +4,21 @@ use borrow.Author.Rules.{rules}
 use Rattle.compositor.proofs.render_into.Statement.{statement}
 use Rattle.compositor.proofs.render_into.Tie as tie
 
-read-stack-requires : tie.Need-read-stack-requires
-read-stack-requires c κs = search rules
+read-cue-requires : tie.Need-read-cue-requires
+read-cue-requires c κs = search rules
 
-enum-known-answer : tie.Need-enum-known-answer
-enum-known-answer c = search rules
+enum-known-lines : tie.Need-enum-known-lines
+enum-known-lines c = search rules
 
-draw-whole-requires : tie.Need-draw-whole-requires
-draw-whole-requires c κs =
-    let after-answer = c.before.before.before in
-    let after-read-stack = after-answer.before.before.before.before.before in
-    let r = rw after-answer.answer.given.1 at after-read-stack.read-stack.ensures in
-    (cue_range _ _ _ _ _ r.means, cue_fits _ _ _ _ _ r.means, r.laid, r.counts)
+draw-cue-requires : tie.Need-draw-cue-requires
+draw-cue-requires c κs =
+    let after-lines = c.before.before.before in
+    let after-read-cue = after-lines.before.before.before.before in
+    let r = rw after-lines.lines.given.1 at after-read-cue.read-cue.ensures in
+    (cue_range _ _ _ _ _ r.means, cue_fits _ _ _ _ _ r.means, r.lined, r.counts)
 
-enum-known-answer-2 : tie.Need-enum-known-answer-2
-enum-known-answer-2 c = search rules
+enum-known-number : tie.Need-enum-known-number
+enum-known-number c = search rules
 
 same_length : tie.Need-same-length
 same_length c = search rules
@@ -28,30 +28,28 @@ same-length-2 c = search rules
 
 returns : tie.Need-returns
 returns c =
-    let after-draw-whole = c.before.before.before.before in
-    let after-answer = after-draw-whole.before.before.before.before in
-    let after-read-stack = after-answer.before.before.before.before.before in
-    let r = rw after-answer.answer.given.1 at after-read-stack.read-stack.ensures in
-    accepts r.means r.counts after-draw-whole.draw-whole.ensures tt
+    let after-lines = c.before.before.before.before.before.before in
+    let after-read-cue = after-lines.before.before.before.before in
+    let r = rw after-lines.lines.given.1 at after-read-cue.read-cue.ensures in
+    accepts r.means r.counts c.before.before.draw-cue.ensures tt
 
 same-length-3 : tie.Need-same-length-3
 same-length-3 c = search rules
 
 returns-2 : tie.Need-returns-2
 returns-2 c =
-    let after-answer = c.before in
-    let after-read-stack = after-answer.before.before.before.before.before in
-    let r = rw after-answer.answer2.given.1 at after-read-stack.read-stack.ensures in
+    let after-read-cue = c.before.before.before.before.before in
+    let r = rw c.before.number.given.1 at after-read-cue.read-cue.ensures in
     refuses r.0 r.1
 
 pub render-into-spec : {M : Type 1} → statement M
 render-into-spec =
     tie.close
     (tie.spec
-    read-stack-requires
-    enum-known-answer
-    draw-whole-requires
-    enum-known-answer-2
+    read-cue-requires
+    enum-known-lines
+    draw-cue-requires
+    enum-known-number
     same_length
     same-length-2
     returns

@@ -13,19 +13,19 @@ low : (c : tie.Start) → c.args.k < most_stripes
 low c = stripe_low _ _ c.requires.workable.stripes c.args.k c.requires.there
 
 -- the strokes that are then done are a caption's
-few : (c : tie.After-least) → let a = c.before.before.before.before.before.before.args in counter_of a.t8 a.k + c.least.result ≤ most_strokes
+few : (c : tie.After-least) → let a = c.before.before.before.before.args in counter_of a.t6 a.k + c.least.result ≤ most_strokes
 few c =
-    let start = c.before.before.before.before.before.before in
+    let start = c.before.before.before.before in
     let all = start.requires.workable.few in
     let done = start.requires.sound in
     let m = c.least.ensures in
     omega arith
 
 mul-done : tie.Need-overflow-mul-done
-mul-done c = let k = low c.before.before.before.before in omega arith
+mul-done c = let k = low c.before.before in omega arith
 
 element-copy-out-done : tie.Need-element-copy-out-done
-element-copy-out-done c = low c.before.before.before.before
+element-copy-out-done c = low c.before.before
 
 cast-done : tie.Need-overflow-cast-done
 cast-done c = search rules
@@ -41,9 +41,9 @@ add-after c = search rules
 
 draw-stripe-requires : tie.Need-draw-stripe-requires
 draw-stripe-requires c κs =
-    let start = c.before.before.before.before.before.before.before.before.before in
+    let start = c.before.before.before.before.before.before in
     let w = start.requires.workable in
-    (w.range, w.fits, w.laid, w.stripes, start.requires.there)
+    (w.range, w.fits, w.lined, w.stripes, start.requires.there)
 
 add-after-2 : tie.Need-overflow-add-after-2
 add-after-2 c = search rules
@@ -52,28 +52,24 @@ cast-after : tie.Need-overflow-cast-after
 cast-after c = search rules
 
 mul-after : tie.Need-overflow-mul-after
-mul-after c = let k = low c.before.before.before.before.before.before.before.before.before.before.before.before.before.before in omega arith
+mul-after c = let k = low c.before.before.before.before.before.before.before.before.before in omega arith
 
 element-write-after : tie.Need-element-write-after
-element-write-after c = low c.before.before.before.before.before.before.before.before.before.before.before.before.before.before
+element-write-after c = low c.before.before.before.before.before.before.before.before.before
 
 same_length : tie.Need-same-length
 same_length c = search rules
 
-same-length-2 : tie.Need-same-length-2
-same-length-2 c = search rules
-
 returns : tie.Need-returns
 unfolding with_counter
 returns c =
-    let after-draw-stripe = c.before.before.before.before in
-    let after-least = after-draw-stripe.before.before.before.before in
-    let start = after-least.before.before.before.before.before.before in
+    let after-least = c.before.before.before.before.before in
+    let start = after-least.before.before.before.before in
     let a = start.args in
     let total = start.requires.workable.counts in
-    did_step a.s _ a.ws.now a.picture.now a.t8 a.k a.budget after-least.least.result
+    did_step a.s _ a.ws.now a.picture.now a.t6 a.k a.budget after-least.least.result
     (rw total at start.requires.sound) (rw total at after-least.least.ensures)
-    after-draw-stripe.draw-stripe.ensures
+    c.before.before.draw-stripe.ensures
 
 pub step_spec : {M : Type 1} → statement M
 step_spec =
@@ -91,5 +87,4 @@ step_spec =
     mul-after
     element-write-after
     same_length
-    same-length-2
     returns)

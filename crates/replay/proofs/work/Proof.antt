@@ -7,11 +7,11 @@ use Rattle.replay.proofs.work.Statement.{statement}
 use Rattle.replay.proofs.work.Tie as tie
 
 abbrev invariant-loop : tie.invariant-loop
-invariant-loop s works tape ends workspace₀ picture₀ record₀ at₀ workspace picture «record» at =
+invariant-loop s works tape workspace₀ picture₀ record₀ at₀ workspace picture «record» at =
     (at ≤ length works) × (length workspace ≡ length workspace₀) × (length picture ≡ length picture₀)
 
 abbrev decreases-loop : tie.decreases-loop
-decreases-loop s works tape ends workspace₀ picture₀ record₀ at₀ workspace picture «record» at = length works - at
+decreases-loop s works tape workspace₀ picture₀ record₀ at₀ workspace picture «record» at = length works - at
 
 loop-holds : tie.Need-loop-init invariant-loop decreases-loop
 loop-holds c = (omega arith, refl, refl)
@@ -23,7 +23,7 @@ shared-slice-read-stripe : tie.Need-shared-slice-read-stripe invariant-loop decr
 shared-slice-read-stripe c = omega arith
 
 cast-stripe : tie.Need-overflow-cast-stripe invariant-loop decreases-loop
-cast-stripe c = omega (arith, c.shared-slice-known4.given c.before.before.loop.at)
+cast-stripe c = omega (arith, c.shared-slice-known3.given c.before.before.loop.at)
 
 add-long-at : tie.Need-overflow-add-long-at invariant-loop decreases-loop
 add-long-at c = omega arith
@@ -41,13 +41,13 @@ same_length : tie.Need-same-length invariant-loop decreases-loop
 same_length c =
     let after-work = c.before.before.before.before.before.before.before in
     let inv = after-work.before.before.before.before.before.before.loop.invariant in
-    after-work.work.auto.1.1.1.0 ∙ inv.1
+    after-work.work.auto.1.1.0 ∙ inv.1
 
 same-length-2 : tie.Need-same-length-2 invariant-loop decreases-loop
 same-length-2 c =
     let after-work = c.before.before.before.before.before.before.before in
     let inv = after-work.before.before.before.before.before.before.loop.invariant in
-    after-work.work.auto.1.1.1.1.0 ∙ inv.2
+    after-work.work.auto.1.1.1.0 ∙ inv.2
 
 returns : tie.Need-returns invariant-loop decreases-loop
 returns c = tt
@@ -62,7 +62,7 @@ loop-again : tie.Need-loop-preserved invariant-loop decreases-loop
 loop-again c =
     let after-work = c.before.before.before.before.before.before.before.before in
     let inv = after-work.before.before.before.before.before.before.loop.invariant in
-    (omega arith, after-work.work.auto.1.1.1.0 ∙ inv.1, after-work.work.auto.1.1.1.1.0 ∙ inv.2)
+    (omega arith, after-work.work.auto.1.1.0 ∙ inv.1, after-work.work.auto.1.1.1.0 ∙ inv.2)
 
 same-length-3 : tie.Need-same-length-3 invariant-loop decreases-loop
 same-length-3 c = c.before.loop.invariant.1

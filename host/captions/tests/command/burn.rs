@@ -1,17 +1,17 @@
 //! `captions burn`.
 
 use crate::run::run;
-use captions::{Align, GlyphMode, Settings, Stack, Workspace, draw};
+use captions::{Align, GlyphMode, Settings, Workspace, draw};
 
 /// Two lines, letters of the default color and others, a curly quote, and an italic letter.
 const CUE: &[u8] =
     b"\x02H\x02i\x05\x08\x20\xc0\x40\x02y\x02o\x02u\x00\x02!\x03\x20\x19\x07\x02E\x00";
 
 /// The file that is due.
-pub fn due<'a>(settings: &Settings, tapes: impl Into<Stack<'a>>) -> Vec<u8> {
+fn due(settings: &Settings, tape: &[u8]) -> Vec<u8> {
     let Settings { width, height, .. } = settings;
     let mut picture = settings.new_picture();
-    draw(settings, tapes, &mut Workspace::new(), &mut picture).expect("admitted cues");
+    draw(settings, tape, &mut Workspace::new(), &mut picture).expect("an admitted cue");
     let header = format!(
         "P7\nWIDTH {width}\nHEIGHT {height}\nDEPTH 4\nMAXVAL 255\nTUPLTYPE RGB_ALPHA\nENDHDR\n"
     );

@@ -1,46 +1,30 @@
 //! `captions keep`.
 
-use crate::run::{folder, run, run_in};
+use crate::run::run;
 
 const EXAMPLES: &str = include_str!("../../../../deposit/examples.txt");
 
-/// The deposit's examples of whole pictures that are too large to be shown: what the command writes of
-/// each, and its tapes.
-fn examples() -> Vec<(String, Vec<Vec<u8>>)> {
+/// The deposit's examples of whole pictures that are too large to be shown: their settings, strokes and
+/// sum as the command writes them, and their tape.
+fn examples() -> Vec<(String, Vec<u8>)> {
     let blocks = EXAMPLES.split("\n\n").map(|block| {
         let lines = block.lines().filter_map(|line| line.strip_prefix("    "));
         lines.collect::<Vec<_>>()
     });
     let large = blocks.filter(|lines| lines.iter().any(|line| line.starts_with("settings 640 ")));
-    large.map(|lines| (kept(&lines), tapes(&lines))).collect()
-}
-
-/// The end of each tape, where there are several.
-fn ends<'a>(line: &'a str) -> Option<impl Iterator<Item = &'a str>> {
-    Some(line.strip_prefix("tape ends ")?.split(' '))
+    large.map(|lines| (kept(&lines), tape(&lines))).collect()
 }
 
 fn kept(lines: &[&str]) -> String {
-    let kept = lines
-        .iter()
-        .filter(|line| ends(line).is_some() || !line.starts_with("tape "));
+    let kept = lines.iter().filter(|line| !line.starts_with("tape"));
     kept.fold(String::new(), |text, line| text + line + "\n")
 }
 
-fn tapes(lines: &[&str]) -> Vec<Vec<u8>> {
-    let parts = lines.iter().filter(|line| ends(line).is_none());
-    let bytes = parts.filter_map(|line| line.strip_prefix("tape "));
+fn tape(lines: &[&str]) -> Vec<u8> {
+    let tapes = lines.iter().filter_map(|line| line.strip_prefix("tape "));
+    let bytes = tapes.flat_map(|line| line.split(' '));
     let byte = |byte| u8::from_str_radix(byte, 16).expect("a byte is hexadecimal");
-    let bytes: Vec<u8> = bytes.flat_map(|line| line.split(' ')).map(byte).collect();
-    let Some(told) = lines.iter().find_map(|line| ends(line)) else {
-        return vec![bytes];
-    };
-    let told: Vec<usize> = told.map(|end| end.parse().expect("a number")).collect();
-    let starts = [0].into_iter().chain(told.iter().copied());
-    starts
-        .zip(&told)
-        .map(|(start, end)| bytes[start..*end].to_vec())
-        .collect()
+    bytes.map(byte).collect()
 }
 
 #[test]
@@ -49,26 +33,12 @@ fn keeps_what_the_deposit_has() {
         "",
         "--default-color FFFFFF80 --outline-color 00204040 --line-height 30 --bottom-margin 300 \
          --outline 2 --align right",
-        "",
-        "",
-        "--default-color FFFFFF80 --outline-color 00204040 --line-height 16 --outline 4 \
-         --outline-cap 4 --align right",
     ];
     let examples = examples();
     assert_eq!(examples.len(), words.len());
-    for (number, (words, (kept, tapes))) in words.iter().zip(examples).enumerate() {
-        let names: Vec<String> = (0..tapes.len())
-            .map(|tape| format!("{tape}.tape"))
-            .collect();
-        let named = names.iter().map(String::as_str);
-        let files: Vec<(&str, &[u8])> = named.zip(tapes.iter().map(Vec::as_slice)).collect();
-        let folder = folder(&format!("deposit-{number}"), &files);
-        let mut words: Vec<&str> = ["keep"]
-            .into_iter()
-            .chain(words.split_whitespace())
-            .collect();
-        words.extend(files.iter().map(|(name, _)| name));
-        let written = run_in(&folder, &words, b"");
+    for (words, (kept, tape)) in words.iter().zip(examples) {
+        let words: Vec<&str> = words.split_whitespace().collect();
+        let written = run(&[&["keep"], &words[..]].concat(), &tape);
         assert_eq!(written.text(), kept);
         written.done();
     }

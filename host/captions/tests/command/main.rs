@@ -5,7 +5,6 @@ mod keep;
 mod lines;
 mod run;
 mod show;
-mod stacks;
 mod status;
 mod text;
 mod usage;

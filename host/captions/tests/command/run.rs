@@ -1,8 +1,6 @@
 //! Runs the command.
 
-use std::fs;
 use std::io::Write;
-use std::path::{Path, PathBuf};
 use std::process::{Child, Command, Output, Stdio};
 use std::sync::mpsc::{self, RecvTimeoutError};
 use std::thread;
@@ -56,13 +54,8 @@ pub fn command(words: &[&str]) -> Command {
 }
 
 pub fn start(words: &[&str]) -> Child {
-    start_in(Path::new("."), words)
-}
-
-fn start_in(folder: &Path, words: &[&str]) -> Child {
     let mut command = command(words);
     command
-        .current_dir(folder)
         .stdin(Stdio::piped())
         .stdout(Stdio::piped())
         .stderr(Stdio::piped());
@@ -70,25 +63,10 @@ fn start_in(folder: &Path, words: &[&str]) -> Child {
 }
 
 pub fn run(words: &[&str], input: &[u8]) -> Ran {
-    run_in(Path::new("."), words, input)
-}
-
-/// Runs it in a folder.
-pub fn run_in(folder: &Path, words: &[&str], input: &[u8]) -> Ran {
-    let mut child = start_in(folder, words);
+    let mut child = start(words);
     // It need not read all.
     let _ = child.stdin.take().expect("a pipe").write_all(input);
     Ran::new(ended(child))
-}
-
-/// A folder of a test's own, with files that have these names and hold these bytes.
-pub fn folder(name: &str, files: &[(&str, &[u8])]) -> PathBuf {
-    let folder = Path::new(env!("CARGO_TARGET_TMPDIR")).join(name);
-    fs::create_dir_all(&folder).expect("a folder");
-    for (file, bytes) in files {
-        fs::write(folder.join(file), bytes).expect("the file is written");
-    }
-    folder
 }
 
 /// Runs it on an input that gives these bytes and then neither more nor an end.

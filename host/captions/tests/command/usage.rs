@@ -102,8 +102,8 @@ fn gives_its_version() {
 
 #[test]
 fn says_what_it_can_do_where_it_is_not_asked() {
-    let message = "usage: captions text|show|lines|burn|keep [options] [tapes] < input > output; \
-        see captions --help";
+    let message =
+        "usage: captions text|show|lines|burn|keep [options] < input > output; see captions --help";
     run(&[], b"").failed(2, "", message);
 }
 
@@ -121,25 +121,8 @@ const WRONG: [Wrong; 6] = [
 ];
 
 /// The help named is that of the subcommand, the first of the words.
-const WRONG_OF_A_SUBCOMMAND: [Wrong; 18] = [
-    ("text cue.txt", "the argument \"cue.txt\" is one too many"),
-    ("text -", "the argument \"-\" is one too many"),
-    (
-        "lines a.tape b.tape",
-        "lines takes one tape, and \"b.tape\" is one too many",
-    ),
-    (
-        "burn - --width 9 -",
-        "standard input, -, can be read only once",
-    ),
-    (
-        "show - - a.tape",
-        "standard input, -, can be read only once",
-    ),
-    (
-        "keep a.tape - -",
-        "standard input, -, can be read only once",
-    ),
+const WRONG_OF_A_SUBCOMMAND: [Wrong; 13] = [
+    ("show cue.tape", "the argument \"cue.tape\" is one too many"),
     ("text --width=3", "text has no option \"--width\""),
     ("show -x", "show has no option \"-x\""),
     ("lines --budget 3", "lines has no option \"--budget\""),
@@ -181,7 +164,7 @@ const WRONG_OF_A_SUBCOMMAND: [Wrong; 18] = [
 /// Runs the words and holds what is said of them to what is wrong and the help that is named.
 fn says(words: &str, wrong: &str, subcommand: &str) {
     let words: Vec<&str> = words.split(' ').collect();
-    let input = if wrong.starts_with("the argument") {
+    let input = if wrong.ends_with("too many") {
         " (input comes from standard input)"
     } else {
         ""

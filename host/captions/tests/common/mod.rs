@@ -2,7 +2,7 @@
 #![allow(dead_code)] // each test file uses some of it
 
 use captions::raw;
-use captions::{Align, Cause, InTape, Record, Refusal, Settings, Stripes};
+use captions::{Align, Record, Settings, Stripes};
 
 /// What buffers hold before a call.
 pub const PAINT: u8 = 0xA5;
@@ -34,7 +34,7 @@ pub fn plain(width: u32, height: u32) -> Settings {
 }
 
 /// `plain` as the library takes it.
-pub const fn raw_plain(width: u32, height: u32) -> raw::Settings {
+pub fn raw_plain(width: u32, height: u32) -> raw::Settings {
     raw::Settings {
         width,
         height,
@@ -48,20 +48,6 @@ pub const fn raw_plain(width: u32, height: u32) -> raw::Settings {
         side_margin: 8,
         slant: 2,
         outline_cap: 2,
-    }
-}
-
-/// The refusal of a call that takes one tape.
-pub fn refusal(cause: Cause, place: usize) -> Refusal {
-    let in_tape = InTape {
-        tape: 0,
-        of: 1,
-        place,
-    };
-    Refusal {
-        cause,
-        place,
-        in_tape: cause.is_in_tape().then_some(in_tape),
     }
 }
 

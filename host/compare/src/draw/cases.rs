@@ -5,7 +5,6 @@ use crate::draw::due;
 use crate::draw::frame::Frame;
 use crate::draw::settings::{House, Settings};
 use crate::random::Random;
-use crate::stack::tapes::Tapes;
 use crate::tape::ROOM;
 use crate::tape::segments::each_letter;
 use crate::wrap::cues::{self, Cue};
@@ -72,7 +71,7 @@ pub fn check(
 ) {
     let mut frame = Frame {
         settings: translucent(0, 0),
-        tapes: Tapes::one(cue.tape),
+        tape: cue.tape,
         room: ROOM,
         bytes: Vec::new(),
     };

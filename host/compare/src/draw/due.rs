@@ -6,16 +6,14 @@ use crate::draw::settings::{
     SLANT_MAX, Settings,
 };
 use crate::refusal::{Refusal, plain};
-use crate::tape::{MOST_BYTES, ROOM};
-use crate::work::theirs::Theirs;
+use crate::tape::letters::{self, segments};
+use crate::tape::{MOST_BYTES, ROOM, reading};
 use oxideav_core::{Segment, SubtitleCue};
 use reference::Original;
 
 /// The strokes of a cue. A letter on a line whose glyph has no ink has none (document 02, S-6).
 #[derive(Default)]
 pub struct Strokes {
-    /// How many lines the cue has.
-    pub lines: usize,
     pub total: usize,
     /// Of each letter on a line that has none, how many come before it.
     pub inkless: Vec<usize>,
@@ -46,10 +44,7 @@ pub fn picture(
 pub fn strokes(original: &Original, settings: &Settings, segments: &[Segment]) -> Strokes {
     let lines = original.lines(settings, segments);
     let pieces = lines.iter().flat_map(|line| &line.pieces);
-    let mut strokes = Strokes {
-        lines: lines.len(),
-        ..Strokes::default()
-    };
+    let mut strokes = Strokes::default();
     for (bold, ch) in pieces.flat_map(|piece| piece.text.chars().map(|ch| (piece.bold, ch))) {
         if original.has_ink(bold, ch) {
             strokes.total += settings.strokes();
@@ -60,36 +55,33 @@ pub fn strokes(original: &Original, settings: &Settings, segments: &[Segment]) -
     strokes
 }
 
-/// What is due of a call of any kind. Where it is not refused, the letters that are read from its tapes
-/// are drawn.
+/// What is due of a call of any kind. Where it is not refused, the original draws the letters that
+/// are read from its tape.
 pub fn of_frame(original: &Original, frame: &Frame) -> Outcome {
-    let theirs = Theirs::of_stack(original, frame.settings, stack(frame)?);
-    let mut bytes = frame.bytes.clone();
-    theirs.render(&frame.settings, &mut bytes);
-    Ok(Drawn {
-        strokes: theirs.total,
-        bytes,
-    })
+    let settings = &frame.settings;
+    let letters = letters(frame)?;
+    let cue = SubtitleCue {
+        segments: segments(&letters, settings.default_color),
+        positioning: settings.positioning(false),
+    };
+    Ok(drawn(original, settings, &cue, &frame.bytes))
 }
 
-/// Segments with the letters of a call's tapes, or the first thing that stops it.
-pub fn stack(frame: &Frame) -> Result<Vec<Vec<Segment>>, Refusal> {
+/// The letters of a call's tape, or the first thing that stops it.
+pub fn letters(frame: &Frame) -> letters::Outcome {
     settings_and_lengths(frame)?;
-    frame.tapes.read(frame.settings.default_color)
+    reading::read(&frame.tape, frame.settings.default_color)
 }
 
-/// What stops a call before its tapes are read, if anything: its settings, the length of its picture's
-/// buffer, the ends of its tapes, or the length of one of these or of its workspace.
+/// What stops a call before its tape is read, if anything: its settings, or the length of its
+/// picture's buffer, its tape or its workspace.
 pub fn settings_and_lengths(frame: &Frame) -> Result<(), Refusal> {
     let settings = &frame.settings;
     if is_out_of_range(settings) {
-        return plain(8);
-    }
-    if frame.bytes.len() < settings.area() {
-        return plain(9);
-    }
-    let tapes = frame.tapes.split()?;
-    if tapes.iter().any(|tape| tape.len() > MOST_BYTES) {
+        plain(8)
+    } else if frame.bytes.len() < settings.area() {
+        plain(9)
+    } else if frame.tape.len() > MOST_BYTES {
         plain(10)
     } else if frame.room < ROOM {
         plain(11)

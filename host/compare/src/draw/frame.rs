@@ -2,21 +2,21 @@
 //! of it.
 
 use crate::draw::settings::{SIDE_MAX, Settings};
-use crate::fenced::{Fenced, Posted};
+use crate::fenced::Fenced;
 use crate::font::picture::fence;
+use crate::hex::hex;
 use crate::proved::{self, Buffers};
 use crate::random::Random;
 use crate::refusal::Refusal;
-use crate::stack::tapes::Tapes;
 use std::fmt::{self, Display, Formatter};
 
-/// The bytes of a fence beside tapes.
+/// The bytes of a fence beside a tape.
 const BESIDE: usize = 64;
 
 /// A call: its settings, and what it is lent.
 pub struct Frame {
     pub settings: Settings,
-    pub tapes: Tapes,
+    pub tape: Vec<u8>,
     /// The bytes of the workspace.
     pub room: usize,
     /// What the picture's buffer holds before the call.
@@ -59,23 +59,22 @@ impl Frame {
         }
     }
 
-    /// Makes a call that is lent tapes and their ends, workspace and picture, each between fences.
+    /// Makes a call that is lent tape, workspace and picture, each between fences.
     pub fn lend(
         &self,
         call: impl FnOnce(Buffers) -> Result<usize, Refusal>,
     ) -> Result<Left, String> {
         let own = self.settings.area().min(self.bytes.len());
         let mut picture = Fenced::new(&self.bytes, fence(self.settings.width.min(SIDE_MAX)));
-        let mut workspace = self.workspace(own);
-        let mut tapes = Fenced::new(&self.tapes.buffer, BESIDE);
-        let mut ends = Posted::new(&self.tapes.ends);
-        let tape_ends = ends.lend();
+        // Calls on one picture that have other rooms find other bytes there.
+        let mut random = Random::new(self.room as u64, own as u64);
+        let mut workspace = Fenced::workspace(&mut random, self.room);
+        let mut tape = Fenced::new(&self.tape, BESIDE);
         let made = picture.lend(0..own, self.bytes.len() - own, |picture| {
             workspace.lend(0..self.room, 0, |workspace| {
-                tapes.lend(0..0, self.tapes.buffer.len(), |tapes| {
+                tape.lend(0..0, self.tape.len(), |tape| {
                     call(Buffers {
-                        tapes,
-                        tape_ends,
+                        tape,
                         workspace,
                         picture,
                     })
@@ -85,8 +84,7 @@ impl Frame {
         let outside = [
             ("outside the picture", made.kept),
             ("outside the workspace", made.answer.kept),
-            ("on the tapes or beside them", made.answer.answer.kept),
-            ("on their ends or beside them", ends.kept()),
+            ("on the tape or beside it", made.answer.answer.kept),
         ];
         let answer = made.answer.answer.answer;
         match outside.iter().find(|(_, kept)| !kept) {
@@ -97,12 +95,6 @@ impl Frame {
                 workspace,
             }),
         }
-    }
-
-    /// A workspace: calls on one picture that have other rooms find other bytes there.
-    fn workspace(&self, own: usize) -> Fenced {
-        let mut random = Random::new(self.room as u64, own as u64);
-        Fenced::workspace(&mut random, self.room)
     }
 
     /// Holds what the picture's buffer holds to what is due of it.
@@ -126,11 +118,11 @@ impl Frame {
 }
 
 impl Left {
-    /// A refusal leaves the picture, and 8 to 11, 13 and 18 leave the workspace too.
+    /// A refusal leaves the picture, and 8 to 11 and 13 leave the workspace too.
     pub fn kept_by(&self, refusal: Refusal) -> Result<(), String> {
         if !self.picture.unchanged() {
             Err(format!("{refusal:?} but wrote to the picture"))
-        } else if matches!(refusal.number, 8..=11 | 13 | 18) && !self.workspace.unchanged() {
+        } else if matches!(refusal.number, 8..=11 | 13) && !self.workspace.unchanged() {
             Err(format!("{refusal:?} but wrote to the workspace"))
         } else {
             Ok(())
@@ -142,6 +134,6 @@ impl Display for Frame {
     fn fmt(&self, to: &mut Formatter) -> fmt::Result {
         let (room, bytes) = (self.room, self.bytes.len());
         write!(to, "{:?}\n    workspace of {room} bytes", self.settings)?;
-        write!(to, ", picture of {bytes}, {}", self.tapes)
+        write!(to, ", picture of {bytes}, tape {}", hex(&self.tape))
     }
 }

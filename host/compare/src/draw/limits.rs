@@ -5,7 +5,6 @@ use crate::draw::cases::{self, text, translucent};
 use crate::draw::due;
 use crate::draw::frame::{Drawn, Frame};
 use crate::draw::settings::Settings;
-use crate::stack::tapes::Tapes;
 use crate::tape::ROOM;
 use crate::wrap::limits;
 use reference::Original;
@@ -72,7 +71,7 @@ fn answer(original: &Original, words: &str, outline: u32, strokes: usize) -> Res
     };
     let frame = Frame {
         settings,
-        tapes: Tapes::one(text(words).tape),
+        tape: text(words).tape,
         room: ROOM,
         bytes: vec![0xa5; settings.area()],
     };

@@ -16,7 +16,6 @@ pub mod speed;
 
 use crate::count::Count;
 use crate::random::Random;
-use crate::stack::tapes::Tapes;
 use crate::wrap::{self, cues::Cue};
 use frame::{Drawn, Frame};
 use kinds::Kinds;
@@ -74,7 +73,7 @@ fn random_frame(original: &Original, random: &mut Random, kinds: &mut Kinds) -> 
 pub fn call(random: &mut Random, settings: Settings, cue: Cue) -> (Frame, SubtitleCue) {
     let frame = Frame {
         settings,
-        tapes: Tapes::one(cue.tape),
+        tape: cue.tape,
         room: wrap::room(random),
         bytes: generate::buffer(random, settings.area()),
     };

@@ -10,12 +10,10 @@ use crate::draw::settings::{
 };
 use crate::random::Random;
 use crate::refusal::{Refusal, Tally, plain};
-use crate::stack::tapes::Tapes;
 use crate::tape::limits::stopped;
 use crate::tape::{MOST_BYTES, ROOM, damage};
 use crate::wrap;
 use reference::Original;
-use std::mem;
 
 /// Sets these calls apart from the frames of the same seed.
 const DAMAGED: u64 = 0xda_d4a3;
@@ -71,7 +69,7 @@ pub fn each(original: &Original) -> Count {
             for short in [false, true] {
                 let mut frame = Frame {
                     settings: good,
-                    tapes: Tapes::one(tape.clone()),
+                    tape: tape.clone(),
                     room,
                     bytes: vec![0xa5; good.area() - usize::from(short)],
                 };
@@ -129,7 +127,7 @@ pub fn random(original: &Original, seed: u64, frames: u64) -> Count {
 pub fn damaged(random: &mut Random, width: u32, height: u32) -> Frame {
     let mut frame = Frame {
         settings: generate::sized(random, width, height),
-        tapes: Tapes::one(damage::tape(random)),
+        tape: damage::tape(random),
         room: wrap::room(random),
         bytes: Vec::new(),
     };
@@ -144,11 +142,7 @@ pub fn damaged(random: &mut Random, width: u32, height: u32) -> Frame {
                     .bytes
                     .truncate(random.pick(&[short, area.saturating_sub(1)]));
             }
-            3 => {
-                let mut tape = mem::take(&mut frame.tapes.buffer);
-                tape.resize(MOST_BYTES + 1, 0x0b);
-                frame.tapes = Tapes::one(tape);
-            }
+            3 => frame.tape.resize(MOST_BYTES + 1, 0x0b),
             4 => frame.room = random.pick(&ROOMS),
             _ => {}
         }

@@ -11,7 +11,6 @@ use crate::draw::settings::{
 use crate::house::generate::italic;
 use crate::random::Random;
 use crate::sample::{self, Due, Sample, most};
-use crate::stack::tapes::Tapes;
 use crate::tape::{ROOM, damage};
 use crate::wrap::cues::{self, Cue};
 use oxideav_core::{Segment, SubtitleCue};
@@ -86,7 +85,7 @@ pub fn put(bytes: &mut Vec<u8>, frame: &Frame, job: Calls) {
     bytes.extend((house.side_margin as u16).to_be_bytes());
     bytes.extend([house.slant, house.outline_cap].map(|number| number as u8));
     bytes.extend([job.count, job.ends.len() as u8]);
-    let follow = 2 * job.ends.len() + job.works.len() + frame.tapes.buffer.len();
+    let follow = 2 * job.ends.len() + job.works.len() + frame.tape.len();
     let size = frame.bytes.len();
     for number in [job.calls, size as u16, follow as u16] {
         bytes.extend(number.to_be_bytes());
@@ -95,7 +94,7 @@ pub fn put(bytes: &mut Vec<u8>, frame: &Frame, job: Calls) {
         bytes.extend((*end as u16).to_be_bytes());
     }
     bytes.extend(job.works);
-    bytes.extend(&frame.tapes.buffer);
+    bytes.extend(&frame.tape);
 }
 
 /// A line for each Draw.
@@ -209,7 +208,7 @@ fn small(random: &mut Random, tape: Vec<u8>) -> Frame {
     Frame {
         bytes: vec![FILLED; settings.area() + behind],
         settings,
-        tapes: Tapes::one(tape),
+        tape,
         room: ROOM,
     }
 }
@@ -227,9 +226,9 @@ fn refused(random: &mut Random, index: u64) -> Entry {
         let tape = damage::tape(random);
         let mut frame = small(random, tape);
         spoil(&mut frame, index);
-        if let Err(refusal) = due::stack(&frame)
+        if let Err(refusal) = due::letters(&frame)
             && refusal.number == number
-            && frame.tapes.buffer.len() <= most(number, SHORT)
+            && frame.tape.len() <= most(number, SHORT)
         {
             let due = Err(refusal);
             return Entry { frame, due };

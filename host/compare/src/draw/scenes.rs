@@ -53,25 +53,6 @@ pub fn harder_scenes() -> Vec<Scene> {
     ]
 }
 
-/// How many tapes a stack has, and the cue of each. All of their lines stand in the picture.
-pub fn stacks() -> Vec<(usize, Scene)> {
-    let (large, largest) = ((1920, 1080), (3840, 2160));
-    let of = |letters| Scene::new(&format!("{letters} letters"), large, 1, words(letters));
-    vec![
-        (
-            2,
-            Scene::new("two lines of 32 letters", large, 1, lines(2, 32)),
-        ),
-        (8, Scene::new("a line of 32 letters", large, 1, words(32))),
-        (2, of(2048)),
-        (8, of(512)),
-        (
-            8,
-            Scene::new("4096 letters", largest, 1, words(MOST_LETTERS)),
-        ),
-    ]
-}
-
 /// So many letters of words.
 fn words(letters: usize) -> String {
     over_and_over(WORDS, letters)

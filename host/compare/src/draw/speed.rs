@@ -3,8 +3,7 @@
 use crate::draw::cases::{Colors, OPAQUE, TRANSLUCENT};
 use crate::draw::scenes::{Scene, harder_scenes, scenes};
 use crate::draw::settings::Settings;
-use crate::proved;
-use crate::stack::tapes::Tapes;
+use crate::proved::{self, Buffers};
 use crate::tape::{ROOM, written};
 use crate::timing::{in_turn, micros};
 use oxideav_core::SubtitleCue;
@@ -82,7 +81,7 @@ fn times(scene: &Scene, original: &Original, colors: Colors) -> [Times; 2] {
     let segments = [scene.segments(), Vec::new()];
     let tapes = segments
         .each_ref()
-        .map(|segments| Tapes::one(written::shortest(segments)));
+        .map(|segments| written::shortest(segments));
     let cues = segments.map(|segments| SubtitleCue {
         segments: match scene.glyph_mode {
             1 => replaced::all(&segments),
@@ -93,7 +92,11 @@ fn times(scene: &Scene, original: &Original, colors: Colors) -> [Times; 2] {
     let (mut workspace, mut picture) = (vec![0; ROOM], vec![0; settings.area()]);
     let best = in_turn(|call| match call {
         0 | 1 => {
-            let buffers = black_box(&tapes[call]).lent(&mut workspace, &mut picture);
+            let buffers = Buffers {
+                tape: black_box(&tapes[call]),
+                workspace: &mut workspace,
+                picture: &mut picture,
+            };
             let _ = black_box(proved::draw(&settings, buffers));
         }
         _ => {

@@ -7,7 +7,6 @@ use crate::draw::due;
 use crate::draw::frame::{Drawn, Frame};
 use crate::draw::limits::wide;
 use crate::draw::settings::{House, OUTLINE_CAP_MAX, SIDE_MARGIN_MAX, SLANT_MAX, Settings};
-use crate::stack::tapes::Tapes;
 use crate::tape::ROOM;
 use crate::tape::segments::{MOST_LETTERS, each_letter};
 use crate::work::steps;
@@ -84,7 +83,7 @@ fn answer(
 ) -> Result<(), String> {
     let frame = Frame {
         settings,
-        tapes: Tapes::one(cue.tape.clone()),
+        tape: cue.tape.clone(),
         room: ROOM,
         bytes: vec![0xa5; settings.area()],
     };

@@ -7,7 +7,6 @@ use crate::draw::settings::{
     ALIGNMENTS, House, OUTLINE_CAP_MAX, SIDE_MARGIN_MAX, SLANT_MAX, Settings,
 };
 use crate::house::kinds::Kinds;
-use crate::stack::tapes::Tapes;
 use crate::tape::ROOM;
 use crate::tape::segments::each_letter;
 use crate::work::job::Job;
@@ -111,7 +110,7 @@ fn frame(original: &Original, settings: Settings, kinds: &mut Kinds) -> Result<(
     let Cue { segments, tape } = words();
     let frame = Frame {
         settings,
-        tapes: Tapes::one(tape),
+        tape,
         room: ROOM,
         bytes: vec![FILLED; settings.area()],
     };

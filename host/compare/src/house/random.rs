@@ -7,7 +7,6 @@ use crate::house::generate;
 use crate::house::kinds::Kinds;
 use crate::random::Random;
 use crate::refusal::Tally;
-use crate::stack::tapes::Tapes;
 use crate::work::{self, damaged, due};
 use crate::wrap;
 use reference::Original;
@@ -57,7 +56,7 @@ pub fn records(original: &Original, seed: u64, calls: u64) -> Count {
         let (settings, stripes) = generate::striped(random);
         let frame = Frame {
             settings,
-            tapes: Tapes::one(generate::cue(random).tape),
+            tape: generate::cue(random).tape,
             room: wrap::room(random),
             bytes: draw::generate::buffer(random, settings.area()),
         };

@@ -3,7 +3,6 @@
 use crate::count::Count;
 use crate::draw::cases::{text, translucent};
 use crate::draw::frame::Frame;
-use crate::stack::tapes::Tapes;
 use crate::tape::ROOM;
 use crate::work::call::{Ask, Call};
 use crate::work::due;
@@ -149,7 +148,7 @@ fn hold(
     let call = Call {
         frame: Frame {
             settings,
-            tapes: Tapes::one(text(LETTER).tape),
+            tape: text(LETTER).tape,
             room: ROOM,
             bytes: vec![0xa5; settings.area()],
         },

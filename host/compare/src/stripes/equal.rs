@@ -4,9 +4,9 @@
 use crate::count::Count;
 use crate::draw::cases::{text, translucent};
 use crate::draw::frame::Frame;
-use crate::kinds::{Facts, Kinds};
 use crate::refusal::plain;
-use crate::stack::tapes::Tapes;
+use crate::stripes::each;
+use crate::stripes::kinds::{Facts, Kinds};
 use crate::tape::ROOM;
 use crate::work::call::{Ask, Call, Done, Outcome};
 use crate::work::record::{Record, STRIPES, Stripes, ZEROS, equal};
@@ -49,7 +49,7 @@ const ANY: u64 = 0x54_e0a1;
 /// The comparison's maker of ends held to the wrapper's, for any two numbers.
 pub fn makers(seed: u64) -> Count {
     let mut count = Count::new("makers of equal ends");
-    count.each(seed, ANY, 20_000, |random| {
+    each(&mut count, seed, ANY, 20_000, |random| {
         let mut any = || {
             let most = u32::MAX >> random.within_u32(0..=31);
             random.within_u32(0..=most)
@@ -129,7 +129,7 @@ fn job(theirs: &Theirs, stripe_height: u32) -> Result<(), String> {
     let mut call = Call {
         frame: Frame {
             settings,
-            tapes: Tapes::one(text(LETTERS).tape),
+            tape: text(LETTERS).tape,
             room: ROOM,
             bytes: vec![FILLED; settings.area()],
         },

@@ -3,10 +3,9 @@
 use crate::count::Count;
 use crate::draw;
 use crate::draw::settings::House;
-use crate::kinds::{ENOUGH, Facts, Kinds, all_met};
 use crate::random::Random;
-use crate::stripes::generate;
-use crate::stripes::kinds::ways;
+use crate::stripes::kinds::{Facts, Kinds, all_met, ways};
+use crate::stripes::{ENOUGH, each, generate};
 use crate::tape::ROOM;
 use crate::work::call::Ask;
 use crate::work::job::{Job, Work};
@@ -36,7 +35,9 @@ pub fn compare(original: &Original, seed: u64, jobs: u64) -> Count {
     const NAME: &str = "jobs in unequal stripes";
     let mut count = Count::new(NAME);
     let mut met = Met::default();
-    count.each(seed, JOBS, jobs, |random| job(original, random, &mut met));
+    each(&mut count, seed, JOBS, jobs, |random| {
+        job(original, random, &mut met)
+    });
     met.works.show(NAME);
     let enough = jobs >= ENOUGH;
     all_met(NAME, enough, met.works.counts(), &mut count);

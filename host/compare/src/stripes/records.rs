@@ -3,13 +3,11 @@
 use crate::count::Count;
 use crate::draw;
 use crate::draw::frame::Frame;
-use crate::kinds::{ENOUGH, Facts, Kinds};
 use crate::random::Random;
 use crate::refusal::Tally;
-use crate::stack::tapes::Tapes;
-use crate::stripes::generate;
-use crate::stripes::kinds::ways;
-use crate::tape::damage;
+use crate::stripes::kinds::{self, Facts, Kinds};
+use crate::stripes::{ENOUGH, each, generate};
+use crate::tape::{damage, reading};
 use crate::work::call::{Ask, Call, Outcome};
 use crate::work::record::{Ends, STRIPES, Stripes, ZEROS, ending};
 use crate::work::{self, damaged, due};
@@ -26,12 +24,12 @@ pub fn compare(original: &Original, seed: u64, jobs: u64) -> Count {
     const NAME: &str = "Works on any record, unequal stripes";
     let mut count = Count::new(NAME);
     let (mut tally, mut kinds) = (Tally::default(), Kinds::default());
-    count.each(seed, RECORDS, jobs / 2, |random| {
+    each(&mut count, seed, RECORDS, jobs / 2, |random| {
         let call = call(original, random);
         let due = due::of_call(original, &call);
         tally.add(&due);
         let broken = matches!(&due, Err(refusal) if refusal.number == 13);
-        let ways = ways(&call.record, call.frame.settings.height, broken);
+        let ways = kinds::ways(&call.record, call.frame.settings.height, broken);
         kinds.add(ways.chain(done(&call, &due)).chain(refused(&call, &due)));
         call.hold(&due)
     });
@@ -50,7 +48,7 @@ fn call(original: &Original, random: &mut Random) -> Call {
     };
     let frame = Frame {
         settings,
-        tapes: Tapes::one(tape),
+        tape,
         room: wrap::room(random),
         bytes: draw::generate::buffer(random, settings.area()),
     };
@@ -102,7 +100,7 @@ fn refused(call: &Call, due: &Outcome) -> Facts<13> {
     let there = stripe < record.count;
     let past = record.counters[record.stripes()..].iter().any(|&c| c > 0);
     let own = there && record.counters[stripe as usize % STRIPES] > MOST_STROKES;
-    let faulty = frame.tapes.read(frame.settings.default_color).is_err();
+    let faulty = reading::read(&frame.tape, frame.settings.default_color).is_err();
     let flat = frame.settings.height == 0;
     [
         ("13, and a fault of the tape", is(13) && faulty),

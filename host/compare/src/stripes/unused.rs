@@ -4,10 +4,9 @@
 use crate::count::Count;
 use crate::draw;
 use crate::draw::frame::Frame;
-use crate::kinds::{ENOUGH, Facts, Kinds};
 use crate::random::Random;
-use crate::stack::tapes::Tapes;
-use crate::stripes::generate;
+use crate::stripes::kinds::{Facts, Kinds};
+use crate::stripes::{ENOUGH, each, generate};
 use crate::work::call::{Ask, Call, Outcome};
 use crate::work::record::{Record, Stripes, ending, unused};
 use crate::work::theirs::Theirs;
@@ -25,7 +24,7 @@ pub fn compare(original: &Original, seed: u64, jobs: u64) -> Count {
     const NAME: &str = "unused entries changed";
     let mut count = Count::new(NAME);
     let mut kinds = Kinds::default();
-    count.each(seed, UNUSED, jobs / 10, |random| {
+    each(&mut count, seed, UNUSED, jobs / 10, |random| {
         case(original, random, &mut kinds)
     });
     kinds.settle(NAME, jobs >= ENOUGH, &mut count);
@@ -46,7 +45,7 @@ fn case(original: &Original, random: &mut Random, kinds: &mut Kinds) -> Result<(
     let mut call = Call {
         frame: Frame {
             settings,
-            tapes: Tapes::one(cue.tape),
+            tape: cue.tape,
             room: wrap::room(random),
             bytes: draw::generate::buffer(random, settings.area()),
         },
@@ -79,7 +78,7 @@ fn opens(
     call: &mut Call,
     mut stripes: Stripes,
 ) -> Result<Outcome, String> {
-    let due = due::of_cues(theirs, call);
+    let due = due::of_cue(theirs, call);
     call.hold(&due)?;
     for _ in 0..OTHERS {
         let entries = unused(stripes.count, &mut stripes.ends);
@@ -98,7 +97,7 @@ fn works(
     record: Record,
 ) -> Result<Outcome, String> {
     call.record = record;
-    let mut due = due::of_cues(theirs, call);
+    let mut due = due::of_cue(theirs, call);
     call.hold(&due)?;
     for _ in 0..OTHERS {
         let entries = unused(record.count, &mut call.record.ends);

@@ -5,7 +5,6 @@ use crate::draw;
 use crate::draw::frame::Frame;
 use crate::random::Random;
 use crate::refusal::Tally;
-use crate::stack::tapes::Tapes;
 use crate::work::call::{Ask, Call};
 use crate::work::theirs::Theirs;
 use crate::work::{due, generate};
@@ -35,7 +34,7 @@ fn random(original: &Original, random: &mut Random, tally: &mut Tally) -> Result
     let call = Call {
         frame: Frame {
             settings,
-            tapes: Tapes::one(cue.tape),
+            tape: cue.tape,
             room: wrap::room(random),
             bytes: draw::generate::buffer(random, settings.area()),
         },
@@ -45,7 +44,7 @@ fn random(original: &Original, random: &mut Random, tally: &mut Tally) -> Result
         },
         record,
     };
-    let due = due::of_cues(&theirs, &call);
+    let due = due::of_cue(&theirs, &call);
     tally.add(&due);
     call.hold(&due)
 }

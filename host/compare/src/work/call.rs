@@ -1,12 +1,14 @@
 //! One call of the proved Open or Work between fences, held to what is due of it.
 
 use crate::draw::frame::Frame;
-use crate::fenced::POSTS;
 pub use crate::proved::Ask;
 use crate::proved::{self, Buffers};
 use crate::refusal::Refusal;
 use crate::work::record::{Record, ZEROS};
 use std::fmt::{self, Display, Formatter};
+
+/// What stands on each side of a record.
+const POSTS: [u32; 16] = [0x5eed_fe4c; 16];
 
 /// A call: what it asks for, and what it is told and lent.
 pub struct Call {

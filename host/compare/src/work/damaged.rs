@@ -6,10 +6,9 @@ use crate::draw::settings::SIDE_MAX;
 use crate::draw::{self, refusals};
 use crate::random::Random;
 use crate::refusal::Tally;
-use crate::stack::tapes::Tapes;
+use crate::tape::letters::segments;
 use crate::work::call::{Ask, Call};
 use crate::work::record::{self, Ends, Record, STRIPES, Stripes};
-use crate::work::theirs::Theirs;
 use crate::work::{due, generate};
 use reference::Original;
 use std::array;
@@ -44,7 +43,7 @@ fn damaged(original: &Original, random: &mut Random) -> Call {
     };
     let mut frame = refusals::damaged(random, width, height);
     if random.one_in(2) {
-        frame.tapes = Tapes::one(draw::generate::cue(random).tape);
+        frame.tape = draw::generate::cue(random).tape;
     }
     let settings = frame.settings;
     let stripe_height = stripe_height(random, settings.height.min(SIDE_MAX));
@@ -62,8 +61,10 @@ fn damaged(original: &Original, random: &mut Random) -> Call {
 /// A Work on a record that may be, in half of the cases, or has a counter too large.
 pub fn work(original: &Original, random: &mut Random, frame: Frame, stripes: &Stripes) -> Call {
     let settings = frame.settings;
-    let total = draw::due::stack(&frame)
-        .map_or(0, |stack| Theirs::of_stack(original, settings, stack).total);
+    let total = draw::due::letters(&frame).map_or(0, |letters| {
+        let segments = segments(&letters, settings.default_color);
+        draw::due::strokes(original, &settings, &segments).total
+    });
     let mut record = generate::sound(random, stripes, total);
     let ask = Ask::Work {
         stripe: generate::stripe(random, &record),

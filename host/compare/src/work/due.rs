@@ -4,32 +4,36 @@
 use crate::draw::due;
 use crate::draw::settings::Settings;
 use crate::refusal::{Refusal, plain};
+use crate::tape::letters::segments;
+use crate::tape::reading;
 use crate::work::call::{Ask, Call, Done, Outcome};
 use crate::work::record::{self, Ends, Stripes};
 use crate::work::theirs::Theirs;
 use reference::Original;
 
-/// What is due of a call. Where it is not refused, the letters that are read from its tapes are drawn.
+/// What is due of a call. Where it is not refused, the original draws the letters that are read from
+/// its tape.
 pub fn of_call(original: &Original, call: &Call) -> Outcome {
     let frame = &call.frame;
-    before_tapes(call)?;
-    let stack = frame.tapes.read(frame.settings.default_color)?;
-    let theirs = Theirs::of_stack(original, frame.settings, stack);
-    of_cues(&theirs, call)
+    before_tape(call)?;
+    let color = frame.settings.default_color;
+    let letters = reading::read(&frame.tape, color)?;
+    let theirs = Theirs::new(original, frame.settings, segments(&letters, color));
+    of_cue(&theirs, call)
 }
 
-/// What is due of a call whose tapes are those of known cues, if their ends are right.
-pub fn of_cues(theirs: &Theirs, call: &Call) -> Outcome {
-    before_tapes(call)?;
+/// What is due of a call whose tape is a known cue's.
+pub fn of_cue(theirs: &Theirs, call: &Call) -> Outcome {
+    before_tape(call)?;
     match call.ask {
         Ask::Open { stripes } => Ok(opened(theirs, call, &stripes)),
         Ask::Work { stripe, budget } => worked(theirs, call, stripe, budget),
     }
 }
 
-/// What stops a call before its tapes are read, if anything; of the stripes, an Open's own or those of a
+/// What stops a call before its tape is read, if anything; of the stripes, an Open's own or those of a
 /// Work's record, that they break the rule.
-fn before_tapes(call: &Call) -> Result<(), Refusal> {
+fn before_tape(call: &Call) -> Result<(), Refusal> {
     due::settings_and_lengths(&call.frame)?;
     let height = call.frame.settings.height;
     let keep_rule = match call.ask {

@@ -3,7 +3,6 @@
 use crate::draw::frame::Frame;
 use crate::draw::settings::Settings;
 use crate::refusal::plain;
-use crate::stack::tapes::Tapes;
 use crate::tape::ROOM;
 use crate::work::call::{Ask, Call, Done, Outcome};
 use crate::work::due;
@@ -39,22 +38,12 @@ impl<'a> Job<'a> {
         bytes: Vec<u8>,
         stripes: Stripes,
     ) -> Result<Job<'a>, String> {
-        let theirs = Theirs::new(original, settings, cue.segments);
-        Job::open_stack(theirs, Tapes::one(cue.tape), bytes, stripes)
-    }
-
-    /// Opens a job of these cues so, whose tapes are these.
-    pub fn open_stack(
-        theirs: Theirs<'a>,
-        tapes: Tapes,
-        bytes: Vec<u8>,
-        stripes: Stripes,
-    ) -> Result<Job<'a>, String> {
         let mut job = Job {
+            theirs: Theirs::new(original, settings, cue.segments),
             call: Call {
                 frame: Frame {
-                    settings: theirs.settings,
-                    tapes,
+                    settings,
+                    tape: cue.tape,
                     room: ROOM,
                     bytes,
                 },
@@ -66,9 +55,8 @@ impl<'a> Job<'a> {
                 ask: Ask::Open { stripes },
             },
             budgets: [0; STRIPES],
-            theirs,
         };
-        let due = due::of_cues(&job.theirs, &job.call);
+        let due = due::of_cue(&job.theirs, &job.call);
         job.call.step(due)?;
         Ok(job)
     }
@@ -79,11 +67,6 @@ impl<'a> Job<'a> {
 
     pub fn stripes(&self) -> usize {
         self.call.record.stripes()
-    }
-
-    /// What the picture's buffer holds.
-    pub fn bytes(&self) -> &[u8] {
-        &self.call.frame.bytes
     }
 
     /// Makes a Work and holds it to the original's picture after the stripe's first strokes.
@@ -139,7 +122,7 @@ impl<'a> Job<'a> {
         let own = mem::replace(&mut self.call.record, record);
         self.call.ask = ask;
         self.call.frame.room = room;
-        let due = due::of_cues(&self.theirs, &self.call);
+        let due = due::of_cue(&self.theirs, &self.call);
         let held = self.call.hold(&due);
         self.call.record = own;
         held.map(|()| due.err().map(|refusal| refusal.number))

@@ -6,7 +6,6 @@ use crate::draw::cases::translucent;
 use crate::draw::frame::Frame;
 use crate::draw::refusals::{BREAKS, Break};
 use crate::refusal::Refusal;
-use crate::stack::tapes::Tapes;
 use crate::tape::ROOM;
 use crate::tape::limits::stopped;
 use crate::work::call::{Ask, Call};
@@ -130,7 +129,7 @@ impl Base {
         let call = Call {
             frame: Frame {
                 settings,
-                tapes: Tapes::one(self.tape.clone()),
+                tape: self.tape.clone(),
                 room: self.room,
                 bytes,
             },

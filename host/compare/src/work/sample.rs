@@ -6,7 +6,6 @@ use crate::draw::sample::{self, Calls, FILLED};
 use crate::draw::settings::SLANT_MAX;
 use crate::random::Random;
 use crate::sample::Sample;
-use crate::stack::tapes::Tapes;
 use crate::stripes::generate::{self as any, WAYS};
 use crate::tape::damage;
 use crate::work::call::{Ask, Call, Outcome};
@@ -88,7 +87,7 @@ fn done(original: &Original, random: &mut Random, number: u64) -> Job {
     let settings = frame.settings;
     let theirs = Theirs::new(original, settings, segments);
     let mut job = Job::new(frame, stripes);
-    job.step(due::of_cues(&theirs, &job.call));
+    job.step(due::of_cue(&theirs, &job.call));
     for _ in 0..random.within(2..=WORKS) {
         let stripe = generate::low_stripe(random, &settings, &job.call.record);
         let budget = generate::budget(random, &settings, theirs.total);
@@ -155,7 +154,7 @@ fn refused(original: &Original, random: &mut Random, number: u64, index: u64) ->
     loop {
         let (mut frame, _) = sample::caption(random, number, 1..=LETTERS, SHORT);
         if index % 2 == 1 || due < 8 {
-            frame.tapes = Tapes::one(damage::tape(random));
+            frame.tape = damage::tape(random);
         }
         let stripes = match due {
             13 => broken(random, index as usize, &mut frame),
@@ -169,7 +168,7 @@ fn refused(original: &Original, random: &mut Random, number: u64, index: u64) ->
                 .truncate(frame.settings.area().saturating_sub(1)),
             _ => {}
         }
-        let short = frame.tapes.buffer.len() <= SHORT;
+        let short = frame.tape.len() <= SHORT;
         let mut job = Job::new(frame, stripes);
         let outcome = due::of_call(original, &job.call);
         if short && matches!(&outcome, Err(refusal) if refusal.number == due) {
@@ -223,7 +222,7 @@ impl Job {
         let stripe = stripe.min(u8::MAX.into());
         self.put(stripe as u8, budget);
         self.call.ask = Ask::Work { stripe, budget };
-        self.step(due::of_cues(theirs, &self.call));
+        self.step(due::of_cue(theirs, &self.call));
     }
 
     fn put(&mut self, stripe: u8, budget: u32) {

@@ -4,7 +4,6 @@ use crate::draw::cases::OPAQUE;
 use crate::draw::scenes::{Scene, scenes};
 use crate::draw::settings::Settings;
 use crate::proved::{self, Ask, Buffers};
-use crate::stack::tapes::Tapes;
 use crate::tape::segments::MOST_LETTERS;
 use crate::tape::{ROOM, written};
 use crate::timing::{in_turn, micros};
@@ -46,10 +45,10 @@ longest of these Works.
 const TALL: usize = 900;
 const THIN: usize = 20;
 
-/// Tapes, and what their calls are lent.
-pub struct Desk {
+/// A cue's tape, and what its calls are buffers.
+struct Desk {
     settings: Settings,
-    tapes: Tapes,
+    tape: Vec<u8>,
     workspace: Vec<u8>,
     picture: Vec<u8>,
 }
@@ -59,21 +58,21 @@ pub fn tables() -> String {
     let mut text = ONE.to_string();
     for letters in [64, 512, MOST_LETTERS] {
         for stripe_height in [640, 40] {
-            let mut desk = Desk::of(&Scene::filling(letters));
+            let mut desk = Desk::new(&Scene::filling(letters));
             let stripes = equal(desk.settings.height, stripe_height);
             let _ = writeln!(text, "| {letters} | {} |", desk.one_stroke(&stripes));
         }
     }
     text += WHOLE;
     for scene in scenes().into_iter().chain([Scene::filling(MOST_LETTERS)]) {
-        let _ = writeln!(text, "| {} | {} |", scene.name, Desk::of(&scene).whole());
+        let _ = writeln!(text, "| {} | {} |", scene.name, Desk::new(&scene).whole());
     }
     text + &low()
 }
 
 fn low() -> String {
     let mut text = LOW.to_string();
-    let mut desk = Desk::of(&scenes()[0]);
+    let mut desk = Desk::new(&scenes()[0]);
     let height = desk.settings.height;
     let thin: Vec<u32> = (TALL as u32..=height).step_by(THIN).collect();
     let count = thin.len() as u32;
@@ -94,19 +93,14 @@ fn low() -> String {
 }
 
 impl Desk {
-    pub fn new(settings: Settings, tapes: Tapes) -> Desk {
+    fn new(scene: &Scene) -> Desk {
+        let settings = scene.settings(OPAQUE);
         Desk {
             settings,
-            tapes,
+            tape: written::shortest(&scene.segments()),
             workspace: vec![0; ROOM],
             picture: vec![0; settings.area()],
         }
-    }
-
-    /// One tape's.
-    fn of(scene: &Scene) -> Desk {
-        let tape = written::shortest(&scene.segments());
-        Desk::new(scene.settings(OPAQUE), Tapes::one(tape))
     }
 
     fn one_stroke(&mut self, stripes: &Stripes) -> String {
@@ -129,8 +123,7 @@ impl Desk {
         format!("{stripes} | {first:.2} | {middle:.2} | {last:.2} | {wrap:.2} | {draw:.2}")
     }
 
-    /// How long Draw takes, and Open and then each stripe whole, in stripes of each of the parts.
-    pub fn whole(&mut self) -> String {
+    fn whole(&mut self) -> String {
         let height = self.settings.height;
         let parts = PARTS.map(|part| equal(height, height.div_ceil(part)));
         let best: [_; 5] = in_turn(|call| match call {
@@ -169,7 +162,11 @@ impl Desk {
 
     /// What a call is told and lent.
     fn told(&mut self) -> (Settings, Buffers<'_>) {
-        let buffers = black_box(&self.tapes).lent(&mut self.workspace, &mut self.picture);
+        let buffers = Buffers {
+            tape: black_box(&self.tape),
+            workspace: &mut self.workspace,
+            picture: &mut self.picture,
+        };
         (self.settings, buffers)
     }
 
@@ -182,7 +179,7 @@ impl Desk {
     fn wrap(&mut self) {
         let limit = self.settings.limit() as u32;
         let (_, buffers) = self.told();
-        let _ = black_box(wrap::proved::wrap(buffers.tapes, buffers.workspace, limit));
+        let _ = black_box(wrap::proved::wrap(buffers.tape, buffers.workspace, limit));
     }
 
     /// Opens, and then does each stripe whole.

@@ -11,19 +11,19 @@ use Rattle.compositor.proofs.strokes.draw_each_line.Statement.{statement}
 use Rattle.compositor.proofs.strokes.draw_each_line.Tie as tie
 
 abbrev invariant-loop : tie.invariant-loop
-invariant-loop part₀ rows regular bold slanted ws s lines below left₀ first₀ before₀ i₀ part left first before i =
+invariant-loop part₀ rows regular bold slanted ws s lines left₀ first₀ before₀ i₀ part left first before i =
     (i ≤ lines)
     × Reached ws i first before
     × (length part ≡ length part₀)
-    × Still rows (strokes_at s below ws 0 0 lines) left₀ part₀ (lines_left s ws below lines first i) left part
+    × Still rows (strokes_at s ws 0 0 lines) left₀ part₀ (lines_left s ws lines first i) left part
 
 abbrev decreases-loop : tie.decreases-loop
-decreases-loop part₀ rows regular bold slanted ws s lines below left₀ first₀ before₀ i₀ part left first before i = lines - i
+decreases-loop part₀ rows regular bold slanted ws s lines left₀ first₀ before₀ i₀ part left first before i = lines - i
 
 loop-holds : tie.Need-loop-init invariant-loop decreases-loop
 loop-holds c =
     let a = c.before.before.args in
-    (omega arith, reached_none a.ws.now, refl, begin _ _ _ _ (lines_begin a.s a.ws.now a.below a.lines))
+    (omega arith, reached_none a.ws.now, refl, begin _ _ _ _ (lines_begin a.s a.ws.now a.lines))
 
 letters-on-requires : tie.Need-letters-on-requires invariant-loop decreases-loop
 letters-on-requires c κs =
@@ -67,13 +67,10 @@ sub-baseline-2 c = let h = c.before.before.loop-test.true in omega arith
 sub-baseline-3 : tie.Need-overflow-sub-baseline-3 invariant-loop decreases-loop
 sub-baseline-3 c = let h = c.before.before.loop-test.true in omega arith
 
-add-baseline : tie.Need-overflow-add-baseline invariant-loop decreases-loop
-add-baseline c = let few = c.before.before.before.before.before.before.requires.4 in omega arith
-
 baseline-requires : tie.Need-baseline-requires invariant-loop decreases-loop
 baseline-requires c κs =
     let start = c.before.before.before.before.before.before in
-    let few = start.requires.4 in
+    let few = start.requires.2.few in
     (start.requires.3, omega arith)
 
 place-line-requires : tie.Need-place-line-requires invariant-loop decreases-loop
@@ -122,7 +119,7 @@ loop-again c =
       (line read).2,
       d.auto.0 ∙ l.invariant.2,
       rw (n)
-          (turn _ _ _ _ _ _ (lines_turn start.args.s start.args.ws.now start.args.below start.args.lines l.first l.i h) fits
+          (turn _ _ _ _ _ _ (lines_turn start.args.s start.args.ws.now start.args.lines l.first l.i h) fits
           (rw (n, y) at d.ensures) l.invariant.3),
     )
 
@@ -133,7 +130,7 @@ returns : tie.Need-returns invariant-loop decreases-loop
 returns c =
     let a = c.before.before.before.before.args in
     let l = c.before.loop in
-    (done _ _ _ _ (lines_end a.s a.ws.now a.below a.lines l.first l.i c.loop-test.false) l.invariant.3).paints
+    (done _ _ _ _ (lines_end a.s a.ws.now a.lines l.first l.i c.loop-test.false) l.invariant.3).paints
 
 pub draw-each-line-spec : {M : Type 1} → statement M
 draw-each-line-spec =
@@ -147,7 +144,6 @@ draw-each-line-spec =
     sub-baseline
     sub-baseline-2
     sub-baseline-3
-    add-baseline
     baseline-requires
     place-line-requires
     add-first

@@ -19,11 +19,11 @@ use Rattle.compositor.proofs.strokes.place_line.Statement.{statement}
 use Rattle.compositor.proofs.strokes.place_line.Tie as tie
 
 -- the line's strokes are as many as its letters with ink have
-strokes_are_lem : (c : tie.After-letter-strokes) →
+strokes_are : (c : tie.After-letter-strokes) →
     let a = c.before.before.before.args in
     a.span.inked * c.letter_strokes_lem.result
     ≡ length (line_strokes a.s (line_start a.s (line_width (columns_on a.ws.now a.line))) a.y (letters_at a.ws.now a.span.first a.span.letters))
-strokes_are_lem c =
+strokes_are c =
     let start = c.before.before.before in
     let a = start.args in
     let ls = letters_at a.ws.now a.span.first a.span.letters in
@@ -66,7 +66,7 @@ returns c =
     let small = outline_small a.s start.requires.4 in
     let off = rw outline.0 at (sym c.before.before.is-off.ensures ∙ c.before.if1.true) in
     rw c.past.ensures
-    (missing a.rows a.y a.y (outline_of a.s) start.requires.6 (omega arith) off _ _ _ (strokes_are_lem after-letter-strokes) (line_around a.s _ a.y _))
+    (missing a.rows a.y a.y (outline_of a.s) start.requires.6 (omega arith) off _ _ _ (strokes_are after-letter-strokes) (line_around a.s _ a.y _))
 
 misses-requires : tie.Need-misses-requires
 misses-requires c κs = search rules
@@ -79,7 +79,7 @@ returns-2 c =
     let after-letter-strokes = c.before.before.before.before.before.before.before in
     let start = after-letter-strokes.before.before.before in
     let a = start.args in
-    rw c.past2.ensures (missed a.rows _ _ _ (strokes_are_lem after-letter-strokes) (sym c.before.before.misses.ensures ∙ c.before.if2.true))
+    rw c.past2.ensures (missed a.rows _ _ _ (strokes_are after-letter-strokes) (sym c.before.before.misses.ensures ∙ c.before.if2.true))
 
 measure-line-requires : tie.Need-measure-line-requires
 measure-line-requires c κs = search rules

@@ -15,14 +15,14 @@ use Rattle.job.proofs.stripe.draw_stripe.Tie as tie
 
 -- the stripe has one of the entries, which is its end
 low : (c : tie.Start) → c.args.k < most_stripes
-low c = stripe_low c.args.s (division_of c.args.t7) c.requires.3 c.args.k c.requires.4
+low c = stripe_low c.args.s (division_of c.args.t5) c.requires.3 c.args.k c.requires.4
 
-end_is : (c : tie.Start) → get_or c.args.t7.end_rows c.args.k 0 ≡ end_row (division_of c.args.t7) c.args.k
+end_is : (c : tie.Start) → get_or c.args.t5.end_rows c.args.k 0 ≡ end_row (division_of c.args.t5) c.args.k
 unfolding has_stripe
 end_is c =
     let a = c.args in
-    let long : length a.t7.end_rows ≡ most_stripes = search rules in
-    sym (end_entry a.t7 long a.k (ltb-true a.k (length (division_of a.t7)) c.requires.4))
+    let long : length a.t5.end_rows ≡ most_stripes = search rules in
+    sym (end_entry a.t5 long a.k (ltb-true a.k (length (division_of a.t5)) c.requires.4))
 
 -- where its rows lie: they end within the picture, which is small
 record Lies (first end width height size : ℕ) : Type 0 where
@@ -33,16 +33,16 @@ record Lies (first end width height size : ℕ) : Type 0 where
   small : end * (4 * width) ≤ most_picture
 
 lies : (c : tie.After-first-row) →
-    let a = c.before.before.before.before.before.args in
-    Lies c.first-row.result (get_or a.t7.end_rows a.k 0) a.s.width a.s.height (length a.picture.now)
+    let a = c.before.before.before.args in
+    Lies c.first-row.result (get_or a.t5.end_rows a.k 0) a.s.width a.s.height (length a.picture.now)
 lies c =
-    let start = c.before.before.before.before.before in
+    let start = c.before.before.before in
     let a = start.args in
     let first = c.first-row.result in
-    let end = get_or a.t7.end_rows a.k 0 in
+    let end = get_or a.t5.end_rows a.k 0 in
     let is = end_is start in
     let from = c.first-row.ensures in
-    let d = division_of a.t7 in
+    let d = division_of a.t5 in
     let less : first < end = rw (is, from) (first_low a.s d a.k start.requires.3 start.requires.4) in
     let fits = stripe_fits a.s d a.k start.requires.3 start.requires.4 in
     let ends : end * row_bytes a.s ≡ end_row d a.k * row_bytes a.s = ap (λ (n : ℕ). n * row_bytes a.s) is in
@@ -61,10 +61,10 @@ first-row-requires : tie.Need-first-row-requires
 first-row-requires c κs = search rules
 
 mul-end : tie.Need-overflow-mul-end
-mul-end c = let k = low c.before.before.before.before.before in omega arith
+mul-end c = let k = low c.before.before.before in omega arith
 
 element-copy-out-end : tie.Need-element-copy-out-end
-element-copy-out-end c = low c.before.before.before.before.before
+element-copy-out-end c = low c.before.before.before
 
 cast-end : tie.Need-overflow-cast-end
 cast-end c = search rules
@@ -87,19 +87,19 @@ mul-to c = search rules
 mul-to-2 : tie.Need-overflow-mul-to-2
 mul-to-2 c = let l = lies c.before.before in omega (arith, l.small)
 
-sub-draw-stack : tie.Need-overflow-sub-draw-stack
-sub-draw-stack c = let l = lies c.before.before in omega (arith, l.bytes)
+sub-draw-lines : tie.Need-overflow-sub-draw-lines
+sub-draw-lines c = let l = lies c.before.before in omega (arith, l.bytes)
 
-part-draw-stack-start : tie.Need-slice-bounds-draw-stack-start
-part-draw-stack-start c = let l = lies c.before.before in omega (arith, l.bytes)
+part-draw-lines-start : tie.Need-slice-bounds-draw-lines-start
+part-draw-lines-start c = let l = lies c.before.before in omega (arith, l.bytes)
 
-part-draw-stack-end : tie.Need-slice-bounds-draw-stack-end
-part-draw-stack-end c = (lies c.before.before).within
+part-draw-lines-end : tie.Need-slice-bounds-draw-lines-end
+part-draw-lines-end c = (lies c.before.before).within
 
-draw-stack-requires : tie.Need-draw-stack-requires
-draw-stack-requires c κs =
-    let after-first-row = c.before.before.before.before in
-    let start = after-first-row.before.before.before.before.before in
+draw-lines-requires : tie.Need-draw-lines-requires
+draw-lines-requires c κs =
+    let after-first-row = c.before.before.before in
+    let start = after-first-row.before.before.before in
     let a = start.args in
     let l = lies after-first-row in
     let range = start.requires.0 in
@@ -111,25 +111,22 @@ draw-stack-requires c κs =
         high = omega (arith, range.low, l.short, l.some);
         long = rw length-take (omega (arith, l.bytes, l.within));
       },
-      range,
       start.requires.2,
+      range,
     )
 
 same_length : tie.Need-same-length
 same_length c = search rules
 
-same-length-2 : tie.Need-same-length-2
-same-length-2 c = search rules
-
 returns : tie.Need-returns
 returns c =
-    let after-draw-stack = c.before.before.before.before in
-    let after-first-row = after-draw-stack.before.before.before.before.before in
-    let start = after-first-row.before.before.before.before.before in
+    let after-draw-lines = c.before.before in
+    let after-first-row = after-draw-lines.before.before.before.before in
+    let start = after-first-row.before.before.before in
     let a = start.args in
-    stripe_is a.s (division_of a.t7) a.k start.requires.3 start.requires.4 _ a.picture.now _
-    after-first-row.first-row.result (get_or a.t7.end_rows a.k 0) _ start.requires.1 after-first-row.first-row.ensures (end_is start) refl
-    after-draw-stack.draw-stack.ensures
+    stripe_is a.s (division_of a.t5) a.k start.requires.3 start.requires.4 _ a.picture.now _
+    after-first-row.first-row.result (get_or a.t5.end_rows a.k 0) _ start.requires.1 after-first-row.first-row.ensures (end_is start) refl
+    after-draw-lines.draw-lines.ensures
 
 pub draw-stripe-spec : {M : Type 1} → statement M
 draw-stripe-spec =
@@ -145,10 +142,9 @@ draw-stripe-spec =
     mul-from-2
     mul-to
     mul-to-2
-    sub-draw-stack
-    part-draw-stack-start
-    part-draw-stack-end
-    draw-stack-requires
+    sub-draw-lines
+    part-draw-lines-start
+    part-draw-lines-end
+    draw-lines-requires
     same_length
-    same-length-2
     returns)

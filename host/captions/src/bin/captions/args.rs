@@ -1,6 +1,5 @@
 //! The words of the command line.
 
-use crate::input::STANDARD;
 use crate::output::{Failure, STATUSES};
 use std::ffi::OsString;
 use std::slice::Iter;
@@ -49,21 +48,15 @@ pub fn extra(subcommand: &str, word: &str) -> Failure {
     usage(subcommand, &wrong)
 }
 
-/// Sets what the words say, `--name VALUE` or `--name=VALUE`; the last counts. Answers the words that
-/// are no options: the names of files, or `-`.
+/// Sets what the words say, `--name VALUE` or `--name=VALUE`; the last counts.
 pub fn parse<T>(
     subcommand: &str,
     choices: &[Choice<T>],
     words: &[String],
     options: &mut T,
-) -> Result<Vec<String>, Failure> {
+) -> Result<(), Failure> {
     let mut words = words.iter();
-    let mut files = Vec::new();
     while let Some(word) = words.next() {
-        if word == STANDARD || !word.starts_with('-') {
-            files.push(word.clone());
-            continue;
-        }
         let choice = find(choices, word).ok_or_else(|| unknown(subcommand, word))?;
         let value = choice.value_in(word, &mut words);
         let value = value.map_err(|wrong| usage(subcommand, &wrong))?;
@@ -72,7 +65,7 @@ pub fn parse<T>(
             usage(subcommand, &wrong)
         })?;
     }
-    Ok(files)
+    Ok(())
 }
 
 fn find<'a, T>(choices: &'a [Choice<T>], word: &str) -> Option<&'a Choice<T>> {
@@ -89,6 +82,9 @@ fn split(word: &str) -> (&str, Option<&str>) {
 }
 
 fn unknown(subcommand: &str, word: &str) -> Failure {
+    if !word.starts_with('-') {
+        return extra(subcommand, word);
+    }
     let (name, _) = split(word);
     usage(subcommand, &format!("{subcommand} has no option {name:?}"))
 }

@@ -1,25 +1,18 @@
-//! `captions burn`: the frame of a tape, or of a stack of tapes.
+//! `captions burn`: the frame of a tape.
 
-use crate::input::{self, Tape};
 use crate::options::{CHOICES, Options};
 use crate::output::{self, Failure, Outcome};
 use crate::progress::Progress;
-use crate::{args, fault, stripes};
-use captions::{
-    Cause, InTape, Job, Refusal, Settings, Stack, TAPE_MAX, TAPES_MAX, Workspace, draw,
-};
+use crate::{args, fault, input, stripes};
+use captions::{Cause, Job, Refusal, Settings, Workspace, draw};
 
 const ABOUT: &str = "\
-usage: captions burn [options] [cue.tape ...] > frame.pam
+usage: captions burn [options] < cue.tape > frame.pam
 
 Draws the cue of a tape on a clear frame, and writes it as PAM: P7, RGB_ALPHA, a
 byte a channel. Colors are blended into clear black: those of translucent pixels
 come multiplied by their alpha. The frame is the same whether it is drawn whole
 or in stripes.
-
-Tapes are those of files, or standard input where none is named or `-` is. Up to
-eight make one frame: the first that has lines stands where a tape alone does,
-and each later one above those before it. They are drawn in their order.
 
 An option is `--name VALUE` or `--name=VALUE`; of two the last counts. A color
 may have a # before it, and RRGGBB has alpha FF.
@@ -30,12 +23,11 @@ pub fn command(words: &[String]) -> Outcome {
         return output::write(args::help(ABOUT, &CHOICES).as_bytes());
     }
     let mut options = Options::new();
-    let files = args::parse("burn", &CHOICES, words, &mut options)?;
+    args::parse("burn", &CHOICES, words, &mut options)?;
     if let Some(wrong) = clash(&options) {
         return Err(args::usage("burn", wrong));
     }
-    let tapes = input::tapes("burn", &files)?;
-    let (_, picture) = frame(&options, &tapes)?;
+    let (_, picture) = frame(&options)?;
     output::write(&pam(&options.settings, &picture))
 }
 
@@ -49,27 +41,28 @@ fn clash(options: &Options) -> Option<&'static str> {
     }
 }
 
-/// How many strokes the cues of these tapes have, and their picture.
-pub fn frame(options: &Options, tapes: &[Tape]) -> Result<(u32, Vec<u8>), Failure> {
+/// How many strokes the cue of the tape has that is read, and its picture.
+pub fn frame(options: &Options) -> Result<(u32, Vec<u8>), Failure> {
+    let tape = input::tape()?;
     let mut picture = options.settings.new_picture();
-    let drawn = burn(options, &input::stack(tapes), &mut picture);
-    let strokes = drawn.map_err(|refusal| refused(options, tapes, refusal))?;
+    let drawn = burn(options, &tape, &mut picture);
+    let strokes = drawn.map_err(|refusal| refused(options, &tape, refusal))?;
     Ok((strokes, picture))
 }
 
-fn burn(options: &Options, stack: &Stack, picture: &mut [u8]) -> captions::Result<u32> {
+fn burn(options: &Options, tape: &[u8], picture: &mut [u8]) -> captions::Result<u32> {
     let mut workspace = Workspace::new();
     let Some(asked) = stripes::asked(options) else {
-        return draw(&options.settings, stack, &mut workspace, picture);
+        return draw(&options.settings, tape, &mut workspace, picture);
     };
     let stripes = asked.map_err(|unfit| {
         // Settings and lengths come before stripes, as in Open; Draw says what is wrong with them.
-        let drawn = draw(&options.settings, stack, &mut workspace, picture).err();
+        let drawn = draw(&options.settings, tape, &mut workspace, picture).err();
         drawn
             .filter(|refusal| !refusal.cause.is_in_tape())
             .unwrap_or(unfit)
     })?;
-    let mut job = Job::open(&options.settings, stack, &mut workspace, picture, &stripes)?;
+    let mut job = Job::open(&options.settings, tape, &mut workspace, picture, &stripes)?;
     let budget = options.budget.unwrap_or(u32::MAX);
     let mut progress = Progress::new();
     let done = work(&mut job, &mut workspace, budget, &mut progress);
@@ -105,30 +98,12 @@ fn line(job: &Job, stripe: u32) -> String {
     format!("captions: {stripe} of {stripes} stripes, {percent}%")
 }
 
-fn refused(options: &Options, tapes: &[Tape], refusal: Refusal) -> Failure {
+fn refused(options: &Options, tape: &[u8], refusal: Refusal) -> Failure {
     match refusal.cause {
         Cause::OutOfRange => fault::with_words(refusal, &options.out_of_range().join("; ")),
         Cause::StripesUnfit => fault::with_words(refusal, &stripes::unfit(options)),
-        Cause::TapesUnfit => {
-            let count = tapes.len();
-            let words = format!("there are {count} tapes, and {TAPES_MAX} are the most");
-            fault::with_words(refusal, &words)
-        }
-        _ => match at_fault(tapes, refusal) {
-            Some((tape, refusal)) => fault::failure(tape, refusal),
-            None => fault::with_words(refusal, refusal.cause.sentence()),
-        },
+        _ => fault::failure(tape, refusal),
     }
-}
-
-/// The tape that is refused, and the refusal as it would be of that tape alone.
-fn at_fault(tapes: &[Tape], refusal: Refusal) -> Option<(&Tape, Refusal)> {
-    let Some(InTape { tape, place, .. }) = refusal.in_tape else {
-        let mut tapes = tapes.iter();
-        let longer = tapes.find(|tape| tape.bytes.len() > TAPE_MAX)?;
-        return (refusal.cause == Cause::TapeTooLong).then_some((longer, refusal));
-    };
-    Some((tapes.get(tape)?, Refusal { place, ..refusal }))
 }
 
 fn pam(settings: &Settings, picture: &[u8]) -> Vec<u8> {

@@ -1,30 +1,22 @@
 //! A refusal in words, as precise as the tape lets them be.
 
-use crate::input::Tape;
 use crate::output::Failure;
 use crate::tape::{Reader, number, width};
-use captions::{Cause, Command, LETTERS_MAX, Refusal, TAPE_MAX};
+use captions::{Cause, Command, LETTERS_MAX, Refusal};
 
-/// The refusal of a tape, of which nothing more is known than the library says and the tape shows.
-pub fn failure(tape: &Tape, refusal: Refusal) -> Failure {
-    let Refusal { cause, place, .. } = refusal;
-    let Tape { name, bytes } = tape;
-    if cause == Cause::TapeTooLong && !name.is_empty() {
-        return with_words(refusal, &format!("{name} has more than {TAPE_MAX} bytes"));
-    }
-    let (number, words) = (cause.number(), words(bytes, refusal));
-    if !cause.is_in_tape() {
-        return with_words(refusal, &words);
-    }
-    let of = if name.is_empty() { "" } else { " of " };
-    Failure::Refused(format!(
-        "refused {number} at byte {place}{of}{name}: {words}"
-    ))
+/// A refusal of which nothing more is known than the library says and the tape shows.
+pub fn failure(tape: &[u8], refusal: Refusal) -> Failure {
+    with_words(refusal, &words(tape, refusal))
 }
 
-/// A refusal that lies in no tape, in these words.
+/// A refusal whose cause is said in these words.
 pub fn with_words(refusal: Refusal, words: &str) -> Failure {
-    Failure::Refused(format!("refused {}: {words}", refusal.cause.number()))
+    let Refusal { cause, place } = refusal;
+    let number = cause.number();
+    Failure::Refused(match cause.is_in_tape() {
+        true => format!("refused {number} at byte {place}: {words}"),
+        false => format!("refused {number}: {words}"),
+    })
 }
 
 /// The part of the tape before the command at fault.

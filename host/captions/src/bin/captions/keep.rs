@@ -1,21 +1,17 @@
-//! `captions keep`: what an archive keeps beside a tape, or beside a stack of tapes.
+//! `captions keep`: what an archive keeps beside a tape.
 
 use crate::options::{CHOICES, Options, SETTINGS};
 use crate::output::{self, Outcome};
-use crate::{args, burn, input};
-use captions::{Settings, Stack};
+use crate::{args, burn};
+use captions::Settings;
 
 const ABOUT: &str = "\
-usage: captions keep [options] [cue.tape ...]
+usage: captions keep [options] < cue.tape
 
 Writes what an archive keeps beside a tape, as the deposit's first page says it:
 the settings on one line, how many strokes the cue has, and its picture's sum,
 that of each of its bytes times its number, counted from 1. Whoever draws the
 tape again can hold the picture to it.
-
-Tapes are those of files, or standard input where none is named or `-` is. Of
-several, which burn draws as one frame, it also writes the words `tape ends` and
-where each of them ends, once they are laid end to end in their order.
 
 An option is `--name VALUE` or `--name=VALUE`; of two the last counts. A color
 may have a # before it, and RRGGBB has alpha FF.
@@ -27,22 +23,10 @@ pub fn command(words: &[String]) -> Outcome {
         return output::write(args::help(ABOUT, choices).as_bytes());
     }
     let mut options = Options::new();
-    let files = args::parse("keep", choices, words, &mut options)?;
-    let tapes = input::tapes("keep", &files)?;
-    let (strokes, picture) = burn::frame(&options, &tapes)?;
+    args::parse("keep", choices, words, &mut options)?;
+    let (strokes, picture) = burn::frame(&options)?;
     let (settings, sum) = (line(&options.settings), sum(&picture));
-    let ends = ends(&input::stack(&tapes));
-    let kept = format!("settings {settings}\n{ends}strokes {strokes}\nsum {sum}\n");
-    output::write(kept.as_bytes())
-}
-
-/// Where the tapes of a stack end; nothing of one tape, whose end is its length.
-fn ends(stack: &Stack) -> String {
-    let ends: Vec<String> = stack.ends().iter().map(u32::to_string).collect();
-    match ends.len() {
-        1 => String::new(),
-        _ => format!("tape ends {}\n", ends.join(" ")),
-    }
+    output::write(format!("settings {settings}\nstrokes {strokes}\nsum {sum}\n").as_bytes())
 }
 
 /// The settings in the order in which the deposit has them.

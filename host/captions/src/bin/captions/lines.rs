@@ -1,19 +1,17 @@
 //! `captions lines`: how a tape is broken into lines.
 
 use crate::args::{self, Choice};
-use crate::fault;
-use crate::input::{self, Tape};
 use crate::output::{self, Outcome};
 use crate::tape::Reader;
+use crate::{fault, input};
 use captions::{COLUMNS_MAX, Line, Refusal, Workspace, wrap};
 
 const ABOUT: &str = "\
-usage: captions lines [--columns L] [--text] [cue.tape]
+usage: captions lines [--columns L] [--text] < cue.tape
 
 Writes the word `lines` and how many there are; then of each line its index,
 letters and columns. A refused tape gives the word `refused`, the refusal's
-number and its place. The tape is that of a file, or standard input where none
-is named or `-` is.
+number and its place.
 
 Lines are broken as with the default color FFFFFFFF: with another, the lines
 that burn draws may be unlike these. So the tape 02 58 02 20 02 41 08 FF FF FF
@@ -54,16 +52,16 @@ pub fn command(words: &[String]) -> Outcome {
         columns: 4,
         text: false,
     };
-    let files = args::parse("lines", &CHOICES, words, &mut options)?;
-    let tape = input::one("lines", &files)?;
-    match wrap(&tape.bytes, &mut Workspace::new(), options.columns) {
-        Ok(lines) => output::write(table(&tape.bytes, &lines, options.text).as_bytes()),
+    args::parse("lines", &CHOICES, words, &mut options)?;
+    let tape = input::tape()?;
+    match wrap(&tape, &mut Workspace::new(), options.columns) {
+        Ok(lines) => output::write(table(&tape, &lines, options.text).as_bytes()),
         Err(refusal) => refused(&tape, refusal, options.columns),
     }
 }
 
-fn refused(tape: &Tape, refusal: Refusal, columns: u32) -> Outcome {
-    let Refusal { cause, place, .. } = refusal;
+fn refused(tape: &[u8], refusal: Refusal, columns: u32) -> Outcome {
+    let Refusal { cause, place } = refusal;
     output::write(format!("refused {} {place}\n", cause.number()).as_bytes())?;
     if (1..=COLUMNS_MAX).contains(&columns) {
         return Err(fault::failure(tape, refusal));

@@ -1,5 +1,5 @@
-//! The command `captions`: words as a tape, and a tape as a listing, as lines, as a frame, alone or on
-//! a stack of tapes, or as what an archive keeps beside it.
+//! The command `captions`: words as a tape, and a tape as a listing, as lines, as a frame or as what an
+//! archive keeps beside it.
 
 mod args;
 mod burn;
@@ -20,24 +20,22 @@ use output::{Failure, Outcome};
 use std::env;
 use std::process::ExitCode;
 
-const USAGE: &str = "usage: captions text|show|lines|burn|keep [options] [tapes] < input > output; \
-     see captions --help";
+const USAGE: &str =
+    "usage: captions text|show|lines|burn|keep [options] < input > output; see captions --help";
 
 const HELP: &str = "\
-usage: captions text < words.txt > cue.tape
-       captions show [cue.tape ...]
-       captions lines [--columns L] [--text] [cue.tape]
-       captions burn [options] [cue.tape ...] > frame.pam
-       captions keep [options] [cue.tape ...]
+usage: captions text                         < words.txt > cue.tape
+       captions show                         < cue.tape
+       captions lines [--columns L] [--text] < cue.tape
+       captions burn [options]               < cue.tape > frame.pam
+       captions keep [options]               < cue.tape
 
   text     writes words, UTF-8, as a tape
   show     lists the commands of a tape, and points at its first fault
   lines    writes how a tape is broken into lines
-  burn     draws the frame of a tape, or of up to eight that are on screen
-           together
-  keep     writes what an archive keeps beside a tape, or beside as many
+  burn     draws the frame of a tape
+  keep     writes what an archive keeps beside a tape
 
-Tapes are read from files, or from standard input where none is named or `-` is.
 `captions SUBCOMMAND --help` says more of each, and `captions --version` gives
 the version.
 

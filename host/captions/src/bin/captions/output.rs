@@ -15,8 +15,7 @@ pub enum Failure {
     /// The library refused, or the words cannot be written.
     Refused(String),
     Usage(String),
-    /// What cannot be read.
-    Input(String),
+    Input(io::Error),
     Output(io::Error),
 }
 
@@ -34,9 +33,8 @@ impl Failure {
     /// Writes a line on standard error; none where the reader of the output has gone away.
     pub fn report(&self) {
         match self {
-            Failure::Refused(words) | Failure::Usage(words) | Failure::Input(words) => {
-                message(words);
-            }
+            Failure::Refused(words) | Failure::Usage(words) => message(words),
+            Failure::Input(error) => message(&format!("cannot read standard input: {error}")),
             Failure::Output(error) if error.kind() == ErrorKind::BrokenPipe => {}
             Failure::Output(error) => message(&format!("cannot write standard output: {error}")),
         }

@@ -1,25 +1,20 @@
 //! `captions show`: the commands of a tape.
 
 use crate::args::{self, Choice};
-use crate::fault;
 use crate::hex::hex;
-use crate::input::{self, Tape};
 use crate::output::{self, Outcome};
 use crate::tape::{Entry, Meaning, Reader};
+use crate::{fault, input};
 use captions::{COLUMNS_MAX, Cause, Refusal, Workspace, wrap};
 
 const ABOUT: &str = "\
-usage: captions show [cue.tape ...]
+usage: captions show < cue.tape
 
 Lists the commands of a tape, one a line: the offset of each, its bytes in
 hexadecimal, and what it is, indented by the lists that it stands in. Where the
 tape is refused, the commands before the one at fault are listed, and that one
 is marked with > and what is wrong with it. A tape of more than 16384 bytes is
 not listed.
-
-Tapes are those of files, or standard input where none is named or `-` is. Of
-several each has a line above it, with its number, from 0, and its file. All are
-listed, and the message is about the first that is refused.
 ";
 
 const CHOICES: [Choice<()>; 0] = [];
@@ -28,46 +23,21 @@ pub fn command(words: &[String]) -> Outcome {
     if args::asks_help(words) {
         return output::write(args::help(ABOUT, &CHOICES).as_bytes());
     }
-    let files = args::parse("show", &CHOICES, words, &mut ())?;
-    let tapes = input::tapes("show", &files)?;
-    let mut text = String::new();
-    let mut outcome = Ok(());
-    for tape in &tapes {
-        let (listing, refused) = shown(tape);
-        text += &match tapes.len() {
-            1 => listing,
-            _ => headed(tape, &listing),
-        };
-        outcome = outcome.and(refused); // the first one stays
-    }
-    output::write(text.as_bytes())?;
-    outcome
-}
-
-fn headed(tape: &Tape, listing: &str) -> String {
-    let listing = match listing {
-        "" => "the tape is not listed: it has more than 16384 bytes\n",
-        listed => listed,
-    };
-    format!("{}\n{listing}", tape.name)
-}
-
-/// What is listed of a tape, and whether it is refused.
-fn shown(tape: &Tape) -> (String, Outcome) {
-    let bytes = &tape.bytes;
-    match wrap(bytes, &mut Workspace::new(), COLUMNS_MAX) {
-        Ok(_) if bytes.is_empty() => ("the tape is empty\n".to_string(), Ok(())),
-        Ok(_) => (listing(bytes), Ok(())),
-        Err(refusal) => (refused(bytes, refusal), Err(fault::failure(tape, refusal))),
+    args::parse("show", &CHOICES, words, &mut ())?;
+    let tape = input::tape()?;
+    match wrap(&tape, &mut Workspace::new(), COLUMNS_MAX) {
+        Ok(_) if tape.is_empty() => output::write(b"the tape is empty\n"),
+        Ok(_) => output::write(listing(&tape).as_bytes()),
+        Err(refusal) => refused(&tape, refusal),
     }
 }
 
-/// Nothing of a tape that is too long.
-fn refused(tape: &[u8], refusal: Refusal) -> String {
-    match refusal.cause {
-        Cause::TapeTooLong => String::new(),
-        _ => listing(fault::before(tape, refusal)) + &pointer(tape, refusal),
+fn refused(tape: &[u8], refusal: Refusal) -> Outcome {
+    if refusal.cause != Cause::TapeTooLong {
+        let listing = listing(fault::before(tape, refusal)) + &pointer(tape, refusal);
+        output::write(listing.as_bytes())?;
     }
+    Err(fault::failure(tape, refusal))
 }
 
 fn listing(tape: &[u8]) -> String {
@@ -80,7 +50,7 @@ fn line(entry: &Entry) -> String {
 }
 
 fn pointer(tape: &[u8], refusal: Refusal) -> String {
-    let Refusal { cause, place, .. } = refusal;
+    let Refusal { cause, place } = refusal;
     let words = format!(
         "refused {}: {}",
         cause.number(),

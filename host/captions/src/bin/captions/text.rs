@@ -23,9 +23,7 @@ pub fn command(words: &[String]) -> Outcome {
     if args::asks_help(words) {
         return output::write(args::help(ABOUT, &CHOICES).as_bytes());
     }
-    if let [file, ..] = &args::parse("text", &CHOICES, words, &mut ())?[..] {
-        return Err(args::extra("text", file));
-    }
+    args::parse("text", &CHOICES, words, &mut ())?;
     let mut writer = Writer::new();
     writer.all(input::open()?)?;
     output::write(&writer.tape)
@@ -97,7 +95,7 @@ impl Writer {
     fn failure(&self, fault: Fault) -> Failure {
         let Writer { line, column, .. } = self;
         let words = match fault {
-            Fault::Unreadable(error) => return input::unreadable(input::STANDARD, error),
+            Fault::Unreadable(error) => return Failure::Input(error),
             Fault::NotUtf8(bytes) => not_utf8(&bytes),
             Fault::TooMany => format!("a cue has at most {LETTERS_MAX} letters, breaks counted"),
         };

@@ -1,19 +1,20 @@
 use mathlib.Core.Path.{◌∙◌, sym, ap}
 use Prim.Native.Nat.{ℕ, ◌*◌}
 use native.Mathlib.Omega.{arith}
+use Rattle.tape.specs.Outcome.{on_accepted}
 use Rattle.tape.specs.Style.{default_with}
 use Rattle.tape.specs.TapeRead.{TapeRead}
 use Rattle.tape.proofs.Calls.{accepted_is, refused_is}
 use Rattle.tape.proofs.Answers.{letters_fit, read_is}
-use Rattle.tape.proofs.Bounds.{letters_bounded}
 use Rattle.wrap.proofs.CallWrap.{letters_held}
 use Rattle.compositor.specs.Outline.{outline_of}
-use Rattle.compositor.specs.Ready.{outer_style}
+use Rattle.compositor.specs.Draw.{tape_strokes}
+use Rattle.compositor.specs.Order.{drawing}
 use Rattle.compositor.proofs.Ranges.{outline_small}
 use Rattle.compositor.proofs.WrappedLines.{total_small, cue_laid}
 use borrow.Author.Rules.{rules}
-use Rattle.compositor.proofs.stack.lay_cue.Statement.{statement}
-use Rattle.compositor.proofs.stack.lay_cue.Tie as tie
+use Rattle.compositor.proofs.lay_cue.Statement.{statement}
+use Rattle.compositor.proofs.lay_cue.Tie as tie
 
 -- the tape was read
 read : (q : tie.After-read-tape) →
@@ -72,6 +73,7 @@ same_length : tie.Need-same-length
 same_length c = search rules
 
 returns : tie.Need-returns
+unfolding tape_strokes
 returns c =
     let after-wrap-runs = c.before.before.before.before in
     let after-column-limit = after-wrap-runs.before in
@@ -93,19 +95,20 @@ returns c =
     let on-lines = w.ensures.1 in
     let inked = w.ensures.2 in
     let means = sym (read_is _ _ _ start.requires.1 start.requires.2) ∙ a.means in
-    cue_laid laid start.args.s limit start.requires.0 start.args.tape.now means _ each (omega arith) (omega arith) (omega arith) (omega arith)
+    cue_laid laid start.args.s limit start.requires.0 _ (ap (on_accepted (drawing start.args.s)) means) _ each (omega arith) (omega arith) (omega arith) (omega arith)
 
 same-length-2 : tie.Need-same-length-2
 same-length-2 c = search rules
 
 returns-2 : tie.Need-returns-2
+unfolding tape_strokes
 returns-2 c =
     let after-read-tape = c.before.before.before.before.before in
     let start = after-read-tape.before.before.before.before.before.before in
-    let r = refused_is (read after-read-tape) c.before.number.given.1 in
-    let means = sym (read_is _ _ _ start.requires.1 start.requires.2) ∙ r.means in
-    let own = rw means at (letters_bounded (outer_style start.args.s) start.args.tape.now) in
-    (means, own.most, own.on)
+    let r = refused_is (read after-read-tape) c.before.number.given.1 in (
+      ap (on_accepted (drawing start.args.s)) (sym (read_is _ _ _ start.requires.1 start.requires.2) ∙ r.means),
+      r.keeps,
+    )
 
 pub lay-cue-spec : {M : Type 1} → statement M
 lay-cue-spec =
