@@ -2,6 +2,8 @@
 //
 // A call answers with one number: its answer, or a refusal, the refusal's number times 2^32 and its
 // place. No answer reaches 2^32.
+#![tactic(auto)]
+
 ghost use Rattle.std.specs.Prelude.{◌≡◌, length};
 ghost use Rattle.job.specs.Stripes.{most_stripes};
 ghost use Rattle.captions.specs.Interface.{settings_of, stripes_of, record_of, WrapAnswered, DrawAnswered, OpenAnswered, WorkAnswered};

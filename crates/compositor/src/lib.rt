@@ -1,6 +1,8 @@
 // The compositor: draws a cue's letters, outlined, on a cleared picture.
 // Carried over from `Compositor` of src/compositor.rs of oxideav-subtitle; what is drawn is in specs/.
 // `ws` is the workspace throughout.
+#![tactic(auto)]
+
 mod layout;
 pub mod strokes;
 
@@ -35,7 +37,7 @@ const MOST_OUTLINE_CAP: u32 = 4;
 // `side_margin_px` is how far a line that is aligned left or right stays from that side; `slant` is how
 // far italic letters lean, in eighths of a cell's width; `outline_cap_px` is the most of the outline that
 // is drawn.
-#[derive(Drop)]
+#[derive(Clone, Copy)]
 pub struct Settings {
     pub width: u32,
     pub height: u32,
@@ -114,7 +116,7 @@ impl Settings {
 }
 
 // A tape's caption.
-#[derive(Drop)]
+#[derive(Clone, Copy)]
 pub enum Cue {
     // It lies in the workspace, wrapped: how many lines it has, and strokes.
     Laid(usize, usize),

@@ -22,7 +22,7 @@ use tape::letter;
 use wrap::laid;
 
 // Letters on lines: so many, from the `first` on, of which so many have ink.
-#[derive(Drop)]
+#[derive(Clone, Copy)]
 struct Span {
     first: usize,
     letters: usize,
@@ -31,7 +31,7 @@ struct Span {
 
 // Which strokes are drawn: those from number `from` up to number `to`, counted from the first of
 // those at hand. Each function hands back what is left of its window for the strokes after its own.
-#[derive(Drop)]
+#[derive(Clone, Copy)]
 pub struct Window {
     pub from: usize,
     pub to: usize,

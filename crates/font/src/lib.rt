@@ -1,5 +1,7 @@
 // The bitmap font: two glyph tables, the pen, and the painter of one stroke.
 // Carried over from src/font.rs of oxideav-subtitle; what the crate means is in specs/.
+#![tactic(auto)]
+
 mod paint;
 mod tables;
 
@@ -14,7 +16,7 @@ ghost use Rattle.font.specs.Shear.{font_of, pen_of, slant_of, Shear, Moved, roun
 pub use paint::{ORIGIN, Rows, Spot, draw_glyph_sheared, draw_lowest_rows};
 
 // A font: the bold mark that picks its table. The metrics, in pixels, are those of both fonts.
-#[derive(Drop)]
+#[derive(Clone, Copy)]
 pub struct BitmapFont {
     pub bold: bool,
 }
@@ -53,7 +55,7 @@ impl BitmapFont {
 }
 
 // What a glyph is looked up by: a code point, and the glyph mode that it is drawn in.
-#[derive(Drop)]
+#[derive(Clone, Copy)]
 pub struct GlyphKey {
     pub mode: u32,
     pub code: u32,
@@ -131,7 +133,7 @@ pub const UNMOVED: u8 = 8;
 
 // What a stroke is drawn with: a color, the bold mark that picks the glyph, and how far the glyph's
 // rows are sheared.
-#[derive(Drop)]
+#[derive(Clone, Copy)]
 pub struct Pen {
     pub color: [u8; 4],
     pub bold: bool,

@@ -15,7 +15,7 @@ pub const ORIGIN: usize = 0x400_0000;
 
 // The rows of a picture that are lent: `count` rows of `width` pixels, the first of which is the
 // picture's row `first`.
-#[derive(Drop)]
+#[derive(Clone, Copy)]
 pub struct Rows {
     pub width: usize,
     pub count: usize,
@@ -23,7 +23,7 @@ pub struct Rows {
 }
 
 // Where a glyph stands: the positions of its left column and of its base line.
-#[derive(Drop)]
+#[derive(Clone, Copy)]
 pub struct Spot {
     pub x: usize,
     pub base: usize,

@@ -1,5 +1,7 @@
 // The font for callers in C and Rust: what `host/` compares with the original, glyph by glyph, stroke
 // by stroke and row by row. The captions themselves have an interface of their own.
+#![tactic(auto)]
+
 ghost use Rattle.std.specs.Prelude.{◌≡◌};
 ghost use Rattle.font.specs.Font.{table_of, glyph_rows};
 ghost use Rattle.font_c.specs.Exported.{near, admitted, Stroked, StrokedRows};

@@ -1,6 +1,8 @@
 // A picture drawn in stripes, by calls that each do some of the strokes of one stripe.
 // What a job has done so far is in its record, by value: the calls keep nothing. `ws` is the workspace
 // throughout.
+#![tactic(auto)]
+
 mod stripe;
 
 ghost use Rattle.std.specs.Prelude.{◌≡◌, ◌≤◌, min, length};
@@ -17,21 +19,21 @@ use tape::Answer;
 
 // How a picture is divided into stripes, from the top: how many there are, and the end row of each,
 // which is the first row below it. Those from the count on are not read.
-#[derive(Drop)]
+#[derive(Clone, Copy)]
 pub struct Stripes {
     pub stripe_count: u32,
     pub end_rows: [u32; 64],
 }
 
 // How far a job is: its stripes, and for each how many strokes its rows have had.
-#[derive(Drop)]
+#[derive(Clone, Copy)]
 pub struct JobRecord {
     pub stripes: Stripes,
     pub counters: [u32; 64],
 }
 
 // What a call of `open` or `work` gives.
-#[derive(Drop)]
+#[derive(Clone, Copy)]
 pub struct JobAnswer {
     pub answer: Answer,
     pub job: JobRecord,

@@ -4,6 +4,8 @@
 // The file `stdin` holds tapes of random segments, and `stdout` what the original makes of them
 // (`compare sample` and `compare sample-answers` in host/ write them), so each run of the gate
 // holds the reader to the original.
+#![tactic(auto)]
+
 ghost use Rattle.std.specs.Prelude.{◌+◌, ◌≤◌, ◌<◌, length};
 
 use libc::STDIN_FILENO;

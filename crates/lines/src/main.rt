@@ -2,6 +2,8 @@
 // word `lines` and how many there are; then of each line its index, letters and columns. A tape that
 // is not admitted gives the word `refused`, the refusal's number and its place. Each function that
 // writes is false where the output takes no more.
+#![tactic(auto)]
+
 ghost use Rattle.std.specs.Prelude.{◌+◌, ◌*◌, ◌≤◌, length};
 
 use libc::{STDERR_FILENO, STDIN_FILENO};

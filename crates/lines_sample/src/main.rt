@@ -6,6 +6,8 @@
 // The file `stdin` holds random cues and faulty tapes, and `stdout` what the original makes of the
 // cues, and what document 01 says of the others (`compare lines-sample` and `compare
 // lines-sample-answers` in host/ write them), so each run of the gate holds wrapping to the original.
+#![tactic(auto)]
+
 ghost use Rattle.std.specs.Prelude.{◌+◌, ◌*◌, ◌≤◌, ◌<◌, length};
 ghost use Rattle.wrap.specs.Laid.{most_lines};
 ghost use Rattle.report.specs.Bounds.{two_byte_numbers};

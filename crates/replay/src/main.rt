@@ -13,6 +13,8 @@
 // makes of the captions, also where it is stopped after so many strokes, and what the documents say of
 // the others (`compare draw-sample` and `compare draw-sample-answers` in host/ write them), so each
 // run of the gate holds drawing, in one call and in many, to the original.
+#![tactic(auto)]
+
 ghost use Rattle.std.specs.Prelude.{◌+◌, ◌≤◌, ◌<◌, length};
 
 use compositor::Settings;

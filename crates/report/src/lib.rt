@@ -1,5 +1,7 @@
 // What the programs share that write answers: numbers of two bytes, digests, and the lines written.
 // Each function that writes is false where the output takes no more.
+#![tactic(auto)]
+
 ghost use Rattle.std.specs.Prelude.{◌+◌, ◌≤◌, ◌<◌, length};
 ghost use Rattle.report.specs.Bounds.{two_byte_numbers, most_header};
 

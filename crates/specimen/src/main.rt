@@ -4,6 +4,8 @@
 //
 // The file `stdout` is what the original draws (`compare specimen` in host/ writes it), so each run
 // of the gate holds both tables to the original.
+#![tactic(auto)]
+
 use font::{BitmapFont, GlyphKey};
 use libc::STDOUT_FILENO;
 

@@ -1,6 +1,8 @@
 // The cue tape and its reader: letters with their styles go into a lent workspace.
 // Carried over from `flatten_segments` and `walk` of src/compositor.rs of oxideav-subtitle; what a
 // tape means is in specs/. `ws` is the workspace throughout.
+#![tactic(auto)]
+
 mod command;
 pub mod letter;
 mod reader;
@@ -29,7 +31,7 @@ pub fn wide(x: u8) -> u32
 }
 
 // What a letter is drawn in.
-#[derive(Drop)]
+#[derive(Clone, Copy)]
 pub struct Style {
     pub red: u8,
     pub green: u8,
@@ -78,7 +80,7 @@ pub fn same_style(a: Style, b: Style) -> bool
 
 // Where the reader is: the place in the tape, how many letters it has stored, the style of the last
 // run, and whether that run has no letter yet.
-#[derive(Drop)]
+#[derive(Clone, Copy)]
 struct State {
     at: usize,
     count: usize,
@@ -147,7 +149,7 @@ impl State {
 }
 
 // How a part of the tape was read.
-#[derive(Drop)]
+#[derive(Clone, Copy)]
 enum Step {
     Done(State),
     // A refusal's number and place.
@@ -155,7 +157,7 @@ enum Step {
 }
 
 // What a call answers.
-#[derive(Drop)]
+#[derive(Clone, Copy)]
 pub enum Answer {
     // How many letters, lines or strokes there are, or were drawn.
     Accepted(usize),

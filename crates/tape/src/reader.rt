@@ -44,7 +44,7 @@ fn read_letters(tape: &[u8], ws: &mut [u8], st: State, style: Style) -> State
 }
 
 // A list or a name up to its 00, or the outer list to the tape's end.
-#[cycle(read_list_read_segment)]
+#[cycle(lists)]
 pub fn read_list(
     tape: &[u8],
     ws: &mut [u8],
@@ -82,7 +82,7 @@ pub fn read_list(
 }
 
 // One segment, with its list where it has one. The name of a voice is read as a list is.
-#[cycle(read_list_read_segment)]
+#[cycle(lists)]
 fn read_segment(
     tape: &[u8],
     ws: &mut [u8],

@@ -1,5 +1,7 @@
 // The tape's reader for callers in C and Rust: what `host/` compares with the original, letter by
 // letter. The captions themselves have an interface of their own.
+#![tactic(auto)]
+
 ghost use Rattle.tape_c.specs.Exported.{Answered};
 
 use tape::Style;

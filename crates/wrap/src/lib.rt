@@ -3,6 +3,8 @@
 // in specs/. `ws` is the workspace throughout: letters from its start, the numbers of the letters on
 // lines from `laid::NUMBERS`, two bytes each, the table of lines from `laid::TABLE`, four bytes each,
 // and from `laid::INKED`, two bytes for each line, how many letters with ink are on the lines so far.
+#![tactic(auto)]
+
 mod fill;
 pub mod laid;
 mod line;
@@ -24,7 +26,7 @@ use tape::{Answer, Style};
 const MOST_COLUMNS: u32 = 4096;
 
 // How many lines there are, letters on them, and letters with ink.
-#[derive(Drop)]
+#[derive(Clone, Copy)]
 pub struct Lines {
     pub lines: usize,
     pub letters: usize,

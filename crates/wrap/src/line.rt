@@ -36,7 +36,7 @@ fn put_numbers(ws: &mut [u8], at: usize, i: usize, j: usize)
 // How many lines are closed; among the numbers, where the line being filled starts, where it ends,
 // and where it ends without its trailing spaces; its columns, and those without these spaces; and how
 // many letters with ink are on it and the lines before.
-#[derive(Drop)]
+#[derive(Clone, Copy)]
 pub struct Cursor {
     pub lines: usize,
     pub start: usize,

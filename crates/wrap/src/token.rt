@@ -75,7 +75,7 @@ pub fn tokenise(ws: &[u8], i: usize, count: usize) -> usize
 }
 
 // What letters come to: their columns, and how many of them have ink.
-#[derive(Drop)]
+#[derive(Clone, Copy)]
 pub struct Tally {
     pub columns: usize,
     pub inked: usize,
