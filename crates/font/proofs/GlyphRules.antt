@@ -67,10 +67,10 @@ table_row (g ∷ gs) (suc code) r h j =
     let e : suc code * cell_h + r ≡ 16 + (code * cell_h + r) = omega (arith, suc-mul code 16) in
     rw e (past (rows_of cell_h g) (table_rows gs) 16 (code * cell_h + r) refl ∙ table_row gs code r h (le_of_suc-le-suc j))
 
-abbrev pub regular_row_lem : ℕ → ℕ → ℕ
-regular_row_lem code r = get_or regular_table (code * cell_h + r) 0
+abbrev pub regular_row : ℕ → ℕ → ℕ
+regular_row code r = get_or regular_table (code * cell_h + r) 0
 
-pub regular_row_lem : (code r : ℕ) → code < 256 → r < 16 → regular_row_lem code r ≡ row_of (get_or glyphs code 0) r
+pub regular_row_lem : (code r : ℕ) → code < 256 → r < 16 → regular_row code r ≡ row_of (get_or glyphs code 0) r
 unfolding regular_table
 regular_row_lem code r h j = table_row glyphs code r j h
 
@@ -79,7 +79,7 @@ unfolding latin1
 count = refl
 
 pub accent_rule : (i accent c r : ℕ) → i < 95 → r < 16 → get_or latin1 i (whole 0) ≡ accented accent c
-    → regular_row_lem (0xa1 + i) r ≡ accent_row accent (regular_row_lem c r) r
+    → regular_row (0xa1 + i) r ≡ accent_row accent (regular_row c r) r
 unfolding accent? row?
 accent_rule i accent c r h j e =
     let rows = every {A = ℕ} (λ r _. row? accent c r) 0 (replicate 16 0) in
@@ -87,7 +87,7 @@ accent_rule i accent c r h j e =
     let is : T (leb 0x21 c && ltb c 0x7f) = and_l (leb 0x21 c && ltb c 0x7f) rows t in
     let low : 0x21 ≤ c = leb→le 0x21 c (and_l (leb 0x21 c) (ltb c 0x7f) is) in
     let high : c < 0x7f = ltb→lt c 0x7f (and_r (leb 0x21 c) (ltb c 0x7f) is) in
-    let base : regular_row_lem c r ≡ row_of (printable_glyph c) r =
+    let base : regular_row c r ≡ row_of (printable_glyph c) r =
     regular_row_lem c r (omega arith) j ∙ ap (λ (g : ℕ). row_of g r) (letter_at_lem c low high) in
     regular_row_lem (0xa1 + i) r (omega arith) j
     ∙ ap (λ (g : ℕ). row_of g r) (shape_at i ∙ ap glyph_of e)

@@ -46,6 +46,8 @@ bold_rows code = tabulate_alike _ _ 16 (λ r j. bold_rule (code * cell_h + r)) �
 same : (a b : Bool) → T (beq a b) → a ≡ b
 same true true t = refl
 same false false t = refl
+same false true t = elim t [ ]
+same true false t = elim t [ ]
 
 count : length glyphs ≡ 256
 unfolding glyphs printable latin1

@@ -7,7 +7,7 @@ pub mod Ink  -- which glyphs have ink, and that a stroke of one without paints n
 pub mod Rounding  -- the slant in f32, at each of the nine slants and sixteen rows
 pub mod PixelBlend  -- a color blended into one pixel
 pub mod Columns  -- a glyph's row painted into a picture's row
-pub mod Rows  -- a picture's rows, each changed by itself, and a stroke's rows
+pub mod RowLaws  -- a picture's rows, each changed by itself, and a stroke's rows
 pub mod Pixels  -- lists of pixels without one twice, and a color blended into each
 pub mod MetPixels  -- the pixels that a stroke meets
 pub mod Upward  -- a stroke drawn from its lowest row up

@@ -1,7 +1,7 @@
 -- Laws of lists of pixels: those that have none twice, and a color that is blended into each.
 use Rattle.std.proofs.Common.{◌≡◌, ℕ, ◌+◌, ◌-◌, ◌*◌, ◌<◌, ◌≤◌, Bool, true, false, cond, not, ◌||◌, eqb, ltb, List, [], ◌∷◌, ◌++◌, length, take, drop, sym, refl, ap, ◌∙◌, arith, take-append-drop, take_at, drop_at, ltb-false, ltb-true, eq-eqb, ne_eqb}
 use mathlib.Core.Bool.{and-eq-true_iff, or_assoc}
-use borrow.Author.Tests.{not_true}
+use borrow.Author.Tests.{not-true}
 use Rattle.font.specs.Blend.{blend_pixel}
 use Rattle.font.specs.Upward.{pixel_at, blend_each, has_pixel, none_twice}
 use Rattle.font.proofs.EveryEntry.{All}
@@ -35,7 +35,7 @@ first_once : (p : ℕ) (ps : List ℕ) → none_twice (p ∷ ps) ≡ true → (h
 unfolding none_twice
 first_once p ps e =
     let tests = (and-eq-true_iff (not (has_pixel p ps)) (none_twice ps)).0 e in
-    (not_true (has_pixel p ps) tests.0, tests.1)
+    (not-true (has_pixel p ps) tests.0, tests.1)
 
 -- two lists, of which the second has nothing of the first
 pub both_once : (ps qs : List ℕ) → none_twice ps ≡ true → none_twice qs ≡ true → All (λ p. has_pixel p qs ≡ false) ps

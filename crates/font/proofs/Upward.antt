@@ -5,7 +5,7 @@ use Rattle.font.specs.Slant.{unmoved}
 use Rattle.font.specs.Paint.{origin, paint_row, stroke_row, each_row}
 use Rattle.font.specs.Upward.{stroke_after, one_row, pixel_at, blend_each, met_row, met, part_after, lent_row, DrawnUpward, RowsFromTheBottom}
 use Rattle.font.proofs.Columns.{cond_length}
-use Rattle.font.proofs.Rows.{row_in, rows_kept, rows_one, rows_then, row_at, rows_behind, rows_length, stroke_length, stroke_on_lem, after_on, after_above, after_below, all_rows}
+use Rattle.font.proofs.RowLaws.{row_in, rows_kept, rows_one, rows_then, row_at, rows_behind, rows_length, stroke_length, stroke_on_lem, after_on, after_above, after_below, all_rows}
 use Rattle.font.proofs.Pixels.{lt_by_cases, blend_append, blended_once}
 use Rattle.font.proofs.MetPixels.{columns_meet, Lands, on, off, lands, met_once}
 

@@ -1,5 +1,5 @@
 -- WHAT THE SIGNS OF THE NOTATION MEAN, as equations that hold of them. Definitions only.
-use Rattle.std.specs.Prelude.{◌≡◌, ℕ, suc, ◌+◌, ◌-◌, ◌*◌, ◌/◌, ◌%◌, ◌^◌, ◌<◌, ◌≤◌, min, max, Bool, true, false, cond, not, ◌&&◌, ◌||◌, List, [], ◌∷◌, ◌++◌, map, length, get_or, take, drop, set, replicate, ◌==◌, bit_or, nat_le, nat_lt, slice_index_or, slice_set}
+use Rattle.std.specs.Prelude.{◌≡◌, ℕ, suc, ◌+◌, ◌-◌, ◌*◌, ◌/◌, ◌%◌, ◌^◌, ◌<◌, ◌≤◌, min, max, Bool, true, false, cond, not, ◌&&◌, ◌||◌, List, [], ◌∷◌, ◌++◌, map, length, take, drop, replicate, ◌==◌, bit_or, nat_le, nat_lt, slice_index_or, slice_set}
 use Rattle.std.specs.Bool.{beq}
 use mathlib.Core.List.{flatten}
 use Rattle.std.proofs.lemmas.List.Edits.{sets}

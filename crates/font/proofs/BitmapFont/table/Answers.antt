@@ -1,16 +1,12 @@
 -- `BitmapFont::table` meets its contract: both constants are compared with their definitions, all 4,096 rows.
 use Rattle.font.specs.Glyphs.{printable, printable_glyph, glyph_of, latin1, glyphs}
 use Rattle.font.specs.Font.{regular_table, bold_table}
-use Rattle.font.proofs.BitmapFont.table.Statement.{statement}
-use Rattle.font.proofs.BitmapFont.table.Tie as tie
+use Rattle.font.proofs.BitmapFont.table.Goals as goal
 
-returns : tie.Need-returns
+pub returns-then-self : goal.returns-then-self
 unfolding bold_table regular_table glyphs printable glyph_of latin1 printable_glyph
-returns c = rw c.if1.true
+returns-then-self c = rw c.if-self.true
 
-returns-2 : tie.Need-returns-2
+pub returns-else-self : goal.returns-else-self
 unfolding regular_table glyphs printable glyph_of latin1 printable_glyph
-returns-2 c = rw c.if1.false
-
-pub table-spec : {M : Type 1} → statement M
-table-spec = tie.close (tie.spec returns returns-2)
+returns-else-self c = rw c.if-self.false
