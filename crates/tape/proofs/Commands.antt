@@ -4,7 +4,7 @@ use mathlib.Core.Bool.{Bool, true, false, cond, not, ◌&&◌, ◌||◌}
 use mathlib.Core.List.{List, [], ◌∷◌}
 use Prim.Native.Nat.{ℕ, zero, suc, ◌≤◌, ◌<◌}
 use native.Mathlib.Omega.{arith}
-use borrow.Author.Tests.{leb-true, leb-false, le-leb, lt-leb, ne_eqb, not_false}
+use borrow.Author.Tests.{leb-true, leb-false, le-leb, lt-leb, ne_eqb, not-false}
 use lib.Dec.{leb, eqb}
 use lib.ListN.{length}
 use Rattle.tape.specs.declared.Style.{Style}
@@ -105,7 +105,7 @@ letter_flat c e =
 
 -- what a name holds but its 00
 pub name_letter : (c : ℕ) → (true && not (eqb c 0 || is_letter c)) ≡ false → 0 < c → is_letter c ≡ true
-name_letter c e h = not_false (is_letter c) (rw (ne_eqb c 0 (λ z. omega arith)) at e)
+name_letter c e h = not-false (is_letter c) (rw (ne_eqb c 0 (λ z. omega arith)) at e)
 
 -- ---- openers
 

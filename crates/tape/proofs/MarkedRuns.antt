@@ -1,6 +1,6 @@
 -- The letters that the reader makes, one run after the other, are those of the merged runs.
 use mathlib.Core.Path.{◌≡◌, refl, sym, ap}
-use mathlib.Core.Bool.{Bool, true, false, ◌&&◌, and_true, or_true, or_false}
+use mathlib.Core.Bool.{Bool, true, false, ◌&&◌, and-true, or-true, or-false}
 use mathlib.Core.List.{List, [], ◌∷◌, ◌++◌, append_assoc}
 use Prim.Native.Nat.{ℕ}
 use Rattle.tape.specs.declared.Style.{Style}
@@ -10,7 +10,7 @@ use Rattle.tape.specs.Marks.{last, empty, marked}
 use Rattle.tape.proofs.EqualStyles.{same_eq}
 
 empty_append : (us vs : List ℕ) → empty (us ++ vs) ≡ (empty vs && empty us)
-empty_append [] vs = sym (and_true (empty vs))
+empty_append [] vs = sym (and-true (empty vs))
 empty_append (u ∷ us) [] = refl
 empty_append (u ∷ us) (v ∷ vs) = refl
 
@@ -35,10 +35,10 @@ letters_after q (r ∷ rs) = go (letters_after (run q.style (q.codes ++ r.codes)
         → letters_of (merge_into q (r ∷ rs)) ≡ letters_in q.style true q.codes ++ marked (last q.style (empty q.codes)) (r ∷ rs)
     go joined apart true e =
         let p : r.style ≡ q.style = sym (same_eq q.style r.style e) in
-        rw (e, p, or_false, joined, letters_append q.style true q.codes r.codes, and_true, append_assoc, empty_append) refl
-    go joined apart false e = rw (e, or_true, and_true, apart)
+        rw (e, p, or-false, joined, letters_append q.style true q.codes r.codes, and-true, append_assoc, empty_append) refl
+    go joined apart false e = rw (e, or-true, and-true, apart)
 
 pub marked_merged : (s : Style) (rs : List Run) → marked (last s true) rs ≡ letters_of (merge rs)
 unfolding letters_of
 marked_merged s [] = refl
-marked_merged s (r ∷ rs) = rw and_true (sym (letters_after r rs))
+marked_merged s (r ∷ rs) = rw and-true (sym (letters_after r rs))

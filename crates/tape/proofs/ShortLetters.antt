@@ -1,6 +1,6 @@
 -- Letters of one byte: they have no fault, and storing one reads it.
 use mathlib.Core.Path.{◌≡◌, refl, sym, ap, subst}
-use mathlib.Core.Bool.{Bool, true, ◌&&◌, and_false}
+use mathlib.Core.Bool.{Bool, true, ◌&&◌, and-false}
 use mathlib.Core.List.{List, [], ◌∷◌}
 use Prim.Native.Nat.{ℕ, ◌+◌, ◌*◌, ◌≤◌, ◌<◌}
 use native.Mathlib.Omega.{arith}
@@ -37,7 +37,7 @@ unfolding is_letter is_opener is_scalar added
 short_clean naming depth n rest h v few =
     record {
       known = omega arith;
-      plain = and_false naming;
+      plain = and-false naming;
       shallow = refl;
       whole = h;
       scalar = rw (lt-ltb (code_point 2 rest) 0xd800 (omega arith));

@@ -1,6 +1,6 @@
 -- The tape that segments write means the runs that walking them gives.
 use mathlib.Core.Path.{◌≡◌, ◌∙◌, refl, sym, ap, ap₂, subst}
-use mathlib.Core.Bool.{Bool, true, false, not, ◌&&◌, ◌||◌, and_false}
+use mathlib.Core.Bool.{Bool, true, false, not, ◌&&◌, ◌||◌, and-false}
 use mathlib.Core.List.{List, [], ◌∷◌, ◌++◌, append_assoc, append-nil}
 use Prim.Native.Nat.{ℕ, suc, ◌+◌, ◌/◌, ◌%◌, ◌≤◌, ◌<◌}
 use native.Mathlib.Nat.{add-zero, add_assoc}
@@ -107,7 +107,7 @@ module _ (s : Style) (around : List Style) (naming : Bool) (n : ℕ) where
           → ((rest : List ℕ) → code_point c (operands ++ rest) ≡ v)
           → Means (frame s around naming) (frame s around naming) n (n + 1) (run s (v ∷ []) ∷ []) (c ∷ operands)
       as_command c operands known l z e is =
-          means_command c operands (shows (v ∷ [])) (n + 1) known (rw (z, l, and_false naming)) (rw (letter_flat c l)) (rw z) e
+          means_command c operands (shows (v ∷ [])) (n + 1) known (rw (z, l, and-false naming)) (rw (letter_flat c l)) (rw z) e
           (λ rest. rw (l, is rest, h))
           (λ rest. letter_command c (operands ++ rest) l ∙ ap (λ (x : ℕ). shows (x ∷ [])) (is rest))
           (ap (λ (x : ℕ). n + x) (letter_adds c naming l))
