@@ -1,6 +1,6 @@
 -- THE LAW: at every limit the letters on lines have as many with ink as all letters (document 02, S-6).
 use mathlib.Core.Path.{◌≡◌, ◌∙◌, refl, sym, ap}
-use mathlib.Core.Bool.{Bool, true, false, cond, ◌&&◌, ◌||◌, not, and_false, true≢false, false≢true}
+use mathlib.Core.Bool.{Bool, true, false, cond, ◌&&◌, ◌||◌, not, and-false, true≢false, false≢true}
 use mathlib.Core.List.{List, [], ◌∷◌, map, map-map, flatten}
 use Prim.Native.Nat.{ℕ, zero, suc, ◌+◌}
 use native.Mathlib.Omega.{arith}
@@ -27,7 +27,7 @@ control_bare c true b d p q r e = let h = leb-true c 0x1f p in simp (le-ltb 0x20
 control_bare c false true true p q r e =
     let h = leb-true c 0x9f r in
     let inner : is_inked c ≡ (ltb 0x20 c && false) = simp (q, le-leb c 0xa0 (omega arith)) in
-    inner ∙ and_false (ltb 0x20 c)
+    inner ∙ and-false (ltb 0x20 c)
 control_bare c false true false p q r e = absurd (false≢true e)
 control_bare c false false d p q r e = absurd (false≢true e)
 

@@ -1,6 +1,6 @@
 -- THE LAW: the letters that are neither space, tab, break nor control occur on the lines once each, in tape order.
 use mathlib.Core.Path.{◌≡◌, ◌∙◌, refl, sym, ap, ap₂}
-use mathlib.Core.Bool.{Bool, true, false, ◌&&◌, not, cond, and_false}
+use mathlib.Core.Bool.{Bool, true, false, ◌&&◌, not, cond, and-false}
 use mathlib.Core.List.{List, [], ◌∷◌, ◌++◌, map, flatten, append_assoc, append-nil}
 use Prim.Native.Nat.{ℕ}
 use native.Mathlib.Omega.{arith}
@@ -22,11 +22,11 @@ narrow_not c e = by (is_blank c) (is_control c) (is_tab c) e
   where
     by : (b k t : Bool) → ◌≡◌ {A = ℕ} (cond (k && not t) 0 1) 0 → (not b && (not (is_break c) && not k)) ≡ false
     by true k t e = refl
-    by false true t e = and_false (not (is_break c))
+    by false true t e = and-false (not (is_break c))
     by false false t e = absurd (omega arith)
 
 break_not : (c : ℕ) → is_break c ≡ true → is_shown c ≡ false
-break_not c e = rw e (and_false (not (is_blank c)))
+break_not c e = rw e (and-false (not (is_blank c)))
 
 space_not : (c : ℕ) → is_space c ≡ true → is_shown c ≡ false
 space_not c e = rw e refl

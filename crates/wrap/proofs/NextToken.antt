@@ -5,7 +5,7 @@ use mathlib.Core.List.{List, [], ◌∷◌, ◌++◌}
 use Prim.Native.Nat.{ℕ, suc, ◌+◌, ◌≤◌, ◌<◌}
 use native.Mathlib.Omega.{arith}
 use lib.ListN.{length, take, drop}
-use borrow.Author.Tests.{not_true}
+use borrow.Author.Tests.{not-true}
 use Rattle.tape.specs.Runs.{Letter}
 use Rattle.tape.proofs.EqualStyles.{split, beq_eq, beq_refl}
 use Rattle.wrap.specs.Columns.{is_break}
@@ -35,7 +35,7 @@ module _ (ls : List Letter) where
   goes_true b k e =
       let p = split (not (is_break (code_of ls k))) (beq b (is_blank_letter ls k) && not (letter_of ls k).start) e in
       let q = split (beq b (is_blank_letter ls k)) (not (letter_of ls k).start) p.1 in
-      record { letter = not_true _ p.0; kind = sym (beq_eq b (is_blank_letter ls k) q.0); mid = not_true _ q.1 }
+      record { letter = not-true _ p.0; kind = sym (beq_eq b (is_blank_letter ls k) q.0); mid = not-true _ q.1 }
 
   together_goes : (b : Bool) (k m : ℕ) → is_blank_letter ls k ≡ b → Goes b m → together ls k m ≡ true
   together_goes b k m e g = rw (e, g.kind, g.mid, beq_refl b)
