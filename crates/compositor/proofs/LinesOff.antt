@@ -12,7 +12,7 @@ use lib.ListN.{length, take}
 use Rattle.font.specs.Font.{cell_w}
 use Rattle.font.specs.Ink.{has_ink}
 use Rattle.font.specs.Paint.{origin}
-use Rattle.font.proofs.Rows.{rows_kept, stroke_above, stroke_below}
+use Rattle.font.proofs.RowLaws.{rows_kept, stroke_above, stroke_below}
 use Rattle.tape.specs.Runs.{Letter}
 use Rattle.wrap.specs.Laid.{letters_on, columns_on}
 use Rattle.compositor.specs.declared.Settings.{Settings}

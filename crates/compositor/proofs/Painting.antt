@@ -1,15 +1,15 @@
 -- Strokes on lent rows: one list after the other, and a window on them.
 use mathlib.Core.Path.{◌≡◌, ◌∙◌, refl, sym, ap, subst}
-use mathlib.Core.Bool.{true, false, ◌||◌, or_false, true≢false}
+use mathlib.Core.Bool.{true, false, ◌||◌, or-false, true≢false}
 use mathlib.Core.List.{List, [], ◌∷◌, ◌++◌}
-use Prim.Native.Nat.{ℕ, zero, suc, ◌+◌, ◌-◌, ◌*◌}
+use Prim.Native.Nat.{ℕ, zero, suc, ◌-◌, ◌*◌}
 use native.Mathlib.Omega.{arith}
 use borrow.Author.Tests.{leb-true, le-leb, ne_eqb}
 use lib.Dec.{eqb, leb}
 use lib.ListN.{length, take, drop, length-append, length-take, drop_of_length-le}
 use lib.Seq.{slice, take-nil}
 use Rattle.font.specs.Paint.{each_row}
-use Rattle.font.proofs.Rows.{rows_then, rows_kept, stroke_length}
+use Rattle.font.proofs.RowLaws.{rows_then, rows_kept, stroke_length}
 use Rattle.font.specs.declared.paint.Rows.{Rows}
 use Rattle.compositor.specs.declared.strokes.Window.{Window}
 use Rattle.compositor.specs.Order.{Stroke}
@@ -131,7 +131,7 @@ module _ (rows : Rows) where
       none a zero k = slice_nil a 0
       none a (suc b) k =
           let some : (leb (length ts) a || false) ≡ true = rw (ne_eqb (suc b) 0 (λ z. omega arith)) at k in
-          let few = leb-true (length ts) a (rw or_false at some) in
+          let few = leb-true (length ts) a (rw or-false at some) in
           let n = length-take (suc b) ts in
           drop_of_length-le (take (suc b) ts) {i = a} (omega arith)
 

@@ -16,7 +16,7 @@ use Rattle.font.specs.Slant.{most_slant, nearest, unmoved, row_offset, row_offse
 use Rattle.font.specs.Paint.{origin, lit, paint_column, paint_columns, stroke_row}
 use Rattle.font.proofs.ArrayFill.{tabulate_at}
 use Rattle.font.proofs.Columns.{column_left}
-use Rattle.font.proofs.Rows.{stroke_on_lem, stroke_above, stroke_below}
+use Rattle.font.proofs.RowLaws.{stroke_on_lem, stroke_above, stroke_below}
 use Rattle.font.proofs.EveryEntry.{All, all_append, all_if, each}
 use Rattle.tape.specs.Command.{most_letters}
 use Rattle.tape.specs.Runs.{Letter}

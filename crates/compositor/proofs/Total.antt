@@ -6,6 +6,7 @@ use Prim.Native.Nat.{ℕ, ◌+◌, ◌-◌, ◌*◌}
 use native.Mathlib.Nat.{zero-mul, one-mul, add-mul}
 use native.Mathlib.Omega.{arith}
 use lib.ListN.{length, length-append, length-map}
+use Rattle.font.specs.Font.{cell_w}
 use Rattle.font.specs.Ink.{is_inked}
 use Rattle.font.proofs.Ink.{ink_rule}
 use Rattle.tape.specs.Runs.{Letter}
@@ -47,7 +48,7 @@ module _ (s : Settings) where
   line_length x base [] = sym (zero-mul each)
   line_length x base (l ∷ ls) =
       length-append (letter_strokes s l x base) _
-      ∙ ap (λ (n : ℕ). length (letter_strokes s l x base) + n) (line_length _ base ls)
+      ∙ ap (λ (n : ℕ). length (letter_strokes s l x base) + n) (line_length (x + cell_w) base ls)
       ∙ by (is_inked l.code) refl
     where
       by : (b : Bool) → is_inked l.code ≡ b → length (letter_strokes s l x base) + inked_letters ls * each ≡ (cond b 1 0 + inked_letters ls) * each
