@@ -19,7 +19,7 @@ use Rattle.tape.specs.Call.{answer_of, changed}
 use Rattle.tape.specs.Tape.{least_room}
 use Rattle.tape.proofs.Calls.{accepts, happens, accepted_is}
 use Rattle.font.specs.Paint.{each_row}
-use Rattle.font.proofs.Rows.{rows_then, rows_kept, rows_behind, rows_length, rows_front, row_at}
+use Rattle.font.proofs.RowLaws.{rows_then, rows_kept, rows_behind, rows_length, rows_front, row_at}
 use Rattle.compositor.specs.declared.Settings.{Settings}
 use Rattle.compositor.specs.Settings.{row_bytes, picture_bytes}
 use Rattle.compositor.specs.Order.{Stroke}

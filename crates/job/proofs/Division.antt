@@ -11,7 +11,7 @@ use lib.Dec.{eqb, ltb}
 use lib.ListN.{length, get_or, take, drop, replicate, length-replicate, replicate-append-replicate, length-take, length-append, length-drop, length-set, drop_of_length-le}
 use lib.Seq.{paste, drop-cons, take-append_seam, take-append-le, drop_at, get_or-take, get_or-set_same, get_or-set_other}
 use Rattle.font.specs.Paint.{each_row}
-use Rattle.font.proofs.Rows.{rows_skip, rows_front, rows_part}
+use Rattle.font.proofs.RowLaws.{rows_skip, rows_front, rows_part}
 use Rattle.wrap.proofs.CallWrap.{or_none}
 use Rattle.compositor.specs.declared.Settings.{Settings}
 use Rattle.compositor.specs.Settings.{row_bytes, picture_bytes}
