@@ -7,11 +7,9 @@ use lib.ListN.{length}
 use Rattle.font.specs.Font.{table_of, glyph_rows}
 use Rattle.font.specs.Colors.{color_bytes}
 use Rattle.font.specs.Slant.{row_offsets}
-use Rattle.font.proofs.Rows.{all_rows}
+use Rattle.font.proofs.RowLaws.{all_rows}
 use Rattle.font_c.specs.Exported.{admitted, stroked, stroked_rows}
-use borrow.Author.Rules.{rules}
-use Rattle.font_c.proofs.font_stroke.Statement.{statement}
-use Rattle.font_c.proofs.font_stroke.Tie as tie
+use Rattle.font_c.proofs.font_stroke.Goals as goal
 
 sixteen : (width rows first mode code : ℕ) (bold : Bool) (slant k x y : ℕ) (l : List ℕ)
     → stroked_rows 16 width rows first mode code bold slant k x y l ≡ stroked width rows first mode code bold slant k x y l
@@ -20,16 +18,7 @@ sixteen width rows first mode code bold slant k x y l =
     ap (λ (m : List ℕ). cond (admitted (length l) width rows first slant x y) m l)
     (all_rows (glyph_rows (table_of bold) mode code) (row_offsets slant) (color_bytes k) x y (4 * width) rows first l)
 
-font-stroke-rows-requires : tie.Need-font-stroke-rows-requires
-font-stroke-rows-requires c κs = search rules
-
-same_length : tie.Need-same-length
-same_length c = search rules
-
-returns : tie.Need-returns
+pub returns : goal.returns
 returns c =
-    let rows = c.before.before.font-stroke-rows.ensures in
+    let rows = c.font_stroke_rows.ensures in
     record { answers = rows.answers; leaves = rows.leaves ∙ sixteen _ _ _ _ _ _ _ _ _ _ _ }
-
-pub font-stroke-spec : {M : Type 1} → statement M
-font-stroke-spec = tie.close (tie.spec font-stroke-rows-requires same_length returns)
