@@ -69,6 +69,7 @@ pub fn measure_line(ws: &[u8], line: usize) -> usize
 }
 
 // Where a line of w pixels starts.
+#[tactic(auto, unfolding(crate::specs::Layout::line_start))]
 pub fn line_start(s: Settings, w: usize) -> usize
     requires { InRange s × (w < too_wide) }
     ensures { (result ≡ line_start s w) × (least_start ≤ result) × (result ≤ origin + most_pixels) }

@@ -54,6 +54,7 @@ pub struct Settings {
 }
 
 impl Settings {
+    #[tactic(auto, unfolding(crate::specs::Settings::out_of_range))]
     fn is_out_of_range(self) -> bool
         ensures { result ≡ out_of_range self }
     {

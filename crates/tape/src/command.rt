@@ -32,6 +32,7 @@ pub fn is_opener(c: u8) -> bool
     if c < 0x06 { false } else { c <= 0x0a }
 }
 
+#[tactic(auto, unfolding(crate::specs::Command::is_scalar))]
 fn is_scalar(v: u32) -> bool
     ensures { result ≡ is_scalar v }
 {

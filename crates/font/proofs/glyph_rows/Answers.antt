@@ -5,9 +5,6 @@ use Rattle.font.proofs.ArrayFill.{fill_step, fill_end}
 use Rattle.font.proofs.glyph_rows.Invariants.{row_at}
 use Rattle.font.proofs.glyph_rows.Goals as goal
 
-pub returns-then-code-ge256 : goal.returns-then-code-ge256
-returns-then-code-ge256 c = rw (← c.drawn_code-code.ensures, le-ltb _ _ c.if-code-ge256.true) refl
-
 pub loop-r-init : goal.loop-r-init
 unfolding tabulate
 loop-r-init c = (omega arith, refl, refl)

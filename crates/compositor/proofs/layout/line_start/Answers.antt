@@ -15,15 +15,6 @@ returns-then-s-eq0 c =
     let n = c.requires.0.narrow in
     (rw (eq-eqb _ _ c.if-s-eq0.true) (omega arith), omega arith, omega arith)
 
-pub overflow_add-result-then-s-le2 : goal.overflow_add-result-then-s-le2
-overflow_add-result-then-s-le2 c = let m = c.requires.0.margin in omega arith
-
-pub returns-then-s-le2 : goal.returns-then-s-le2
-unfolding line_start
-returns-then-s-le2 c =
-    let m = c.requires.0.margin in
-    (rw (ne_eqb _ _ c.if-s-eq0.false, le-leb _ _ c.if-s-le2.true), omega arith, omega arith)
-
 pub overflow_sub-result-3 : goal.overflow_sub-result-3
 overflow_sub-result-3 c = let m = c.requires.0.margin in omega arith
 
