@@ -1,11 +1,13 @@
 // What the programs share that write answers: numbers of two bytes, digests, and the lines written.
-// Each function that writes is false where the output takes no more.
+// Each function that reads or writes ends with an error where the input cannot be read, or where the
+// output takes no more.
 #![tactic(auto)]
 
-ghost use Rattle.std.specs.Prelude.{◌+◌, ◌≤◌, ◌<◌, length};
+ghost use Rattle.std.specs.Prelude.{◌+◌, ◌≤◌, ◌<◌, length, IfOk};
 ghost use Rattle.report.specs.Bounds.{two_byte_numbers, most_header};
 
-use libc::STDOUT_FILENO;
+use std::io;
+use std::io::Read;
 
 // The number in two bytes.
 fn two(high: u8, low: u8) -> usize
@@ -48,45 +50,40 @@ pub fn digest(d: u64, bytes: &[u8]) -> u64
     more
 }
 
-pub fn write(text: &[u8]) -> bool {
-    io::write_all(STDOUT_FILENO, text)
+// Reads until the buffer is full or the input ends, and returns how many bytes stand at its start.
+pub fn read_full(input: &mut impl Read, buffer: &mut [u8]) -> io::Result<usize>
+    ensures { IfOk result (λ n. n ≤ length buffer.new) }
+{
+    let mut done = 0;
+    while done < buffer.len() {
+        let n = input.read(&mut buffer[done..])?;
+        if n == 0 {
+            break;
+        }
+        done += n;
+    }
+    Ok(done)
 }
 
-pub fn write_number(n: usize) -> bool {
-    io::print_decimal(STDOUT_FILENO, n as u64)
+pub fn write(rt: &impl Print, text: &[u8]) -> io::Result<()> {
+    rt.write_all(text)
+}
+
+pub fn write_number(rt: &impl Print, n: usize) -> io::Result<()> {
+    print!(rt; "{n}")
 }
 
 // A count and a digest.
-pub fn write_digest(count: usize, digest: u64) -> bool {
-    if !write_number(count) {
-        return false;
-    }
-    if !write(b" ") {
-        return false;
-    }
-    if !io::print_hex(STDOUT_FILENO, digest, 8) {
-        return false;
-    }
-    write(b"\n")
+pub fn write_digest(rt: &impl Print, count: usize, digest: u64) -> io::Result<()> {
+    println!(rt; "{count} {digest:08x}")
 }
 
 // Two numbers, a space between them and the line's end behind.
-pub fn write_pair(a: usize, b: usize) -> bool {
-    if !write_number(a) {
-        return false;
-    }
-    if !write(b" ") {
-        return false;
-    }
-    if !write_number(b) {
-        return false;
-    }
-    write(b"\n")
+pub fn write_pair(rt: &impl Print, a: usize, b: usize) -> io::Result<()> {
+    println!(rt; "{a} {b}")
 }
 
-pub fn write_refusal(number: u8, place: usize) -> bool {
-    if !write(b"refused ") {
-        return false;
-    }
-    write_pair(number as usize, place)
+pub fn write_refusal(rt: &impl Print, number: u8, place: usize) -> io::Result<()> {
+    write(rt, b"refused ")?;
+    write_pair(rt, number as usize, place)
 }
