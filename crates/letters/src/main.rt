@@ -8,18 +8,21 @@
 
 ghost use Rattle.std.specs.Prelude.{◌+◌, ◌≤◌, ◌<◌, length};
 
-use libc::STDIN_FILENO;
+use std::io;
 use tape::{Answer, Style};
 
-fn print_letters(count: usize, letters: &[u8]) -> bool {
-    report::write_digest(count, report::digest(0, letters))
+// One byte more than a sample may have, so that a longer one is seen to be too long.
+const ROOM: usize = 65536;
+
+fn print_letters(rt: &impl Print, count: usize, letters: &[u8]) -> io::Result<()> {
+    report::write_digest(rt, count, report::digest(0, letters))
 }
 
-// Reads one tape; false where the output takes no more.
-fn print_tape(tape: &[u8], workspace: &mut [u8]) -> bool {
+// Reads one tape.
+fn print_tape(rt: &impl Print, tape: &[u8], workspace: &mut [u8]) -> io::Result<()> {
     match tape::read_tape(tape, workspace, Style::default_with([255; 4])) {
-        Answer::Accepted(count) => print_letters(count, &workspace[0..8 * count]),
-        Answer::Refused(number, place) => report::write_refusal(number, place),
+        Answer::Accepted(count) => print_letters(rt, count, &workspace[0..8 * count]),
+        Answer::Refused(number, place) => report::write_refusal(rt, number, place),
     }
 }
 
@@ -35,30 +38,28 @@ fn tape_end(tapes: &[u8], at: usize) -> usize
 }
 
 // Reads tape after tape; false where the sample is cut short.
-fn replay(tapes: &[u8], workspace: &mut [u8]) -> bool {
+fn replay(rt: &impl Print, tapes: &[u8], workspace: &mut [u8]) -> io::Result<bool> {
     let mut at = 0;
     while at < tapes.len() {
         let end = tape_end(tapes, at);
         if tapes.len() < end {
-            return false;
+            return Ok(false);
         }
-        if !print_tape(&tapes[at + 2..end], workspace) {
-            return true;
-        }
+        print_tape(rt, &tapes[at + 2..end], workspace)?;
         at = end;
     }
-    true
+    Ok(true)
 }
 
-fn main() {
-    let mut tapes = io::large_buffer();
-    let mut workspace = io::large_buffer();
-    let end = io::read_full(STDIN_FILENO, &mut tapes);
+fn main(rt: HostRuntime) -> io::Result<()> {
+    let mut tapes = [0; ROOM];
+    let mut workspace = [0; ROOM];
+    let end = report::read_full(&mut rt.stdin(), &mut tapes)?;
     if end == tapes.len() {
-        report::write(b"the sample has more than 65,535 bytes\n");
-        return;
+        return report::write(&rt, b"the sample has more than 65,535 bytes\n");
     }
-    if !replay(&tapes[0..end], &mut workspace) {
-        report::write(b"the sample is cut short\n");
+    if !replay(&rt, &tapes[0..end], &mut workspace)? {
+        return report::write(&rt, b"the sample is cut short\n");
     }
+    Ok(())
 }

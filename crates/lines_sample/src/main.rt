@@ -12,8 +12,11 @@ ghost use Rattle.std.specs.Prelude.{◌+◌, ◌*◌, ◌≤◌, ◌<◌, length
 ghost use Rattle.wrap.specs.Laid.{most_lines};
 ghost use Rattle.report.specs.Bounds.{two_byte_numbers};
 
-use libc::STDIN_FILENO;
+use std::io;
 use tape::{Answer, Style};
+
+// One byte more than a sample may have, so that a longer one is seen to be too long.
+const ROOM: usize = 65536;
 
 // How many letters stand on the lines of a table.
 fn letters_on(table: &[u8], lines: usize) -> usize
@@ -51,59 +54,68 @@ fn digest_letters(d: u64, numbers: &[u8], count: usize, letters: &[u8]) -> u64
     more
 }
 
-fn write_lines(lines: usize, table: &[u8], letters: &[u8]) -> bool
+fn write_lines(rt: &impl Print, lines: usize, table: &[u8], letters: &[u8]) -> io::Result<()>
     requires { (4 * lines ≤ length table.now) × (lines ≤ most_lines) }
 {
     let numbers = 4 * lines;
     let d = report::digest(0, &table[0..numbers]);
     let count = letters_on(table, lines);
     report::write_digest(
+        rt,
         lines,
         digest_letters(d, &table[numbers..table.len()], count, letters),
     )
 }
 
-// Wraps one tape; its letters are read once more, since their numbers tell little of them. False where
-// the output takes no more.
-fn print_lines(tape: &[u8], limit: usize, workspace: &mut [u8], letters: &mut [u8]) -> bool
+// Wraps one tape; its letters are read once more, since their numbers tell little of them.
+fn print_lines(
+    rt: &impl Print,
+    tape: &[u8],
+    limit: usize,
+    workspace: &mut [u8],
+    letters: &mut [u8],
+) -> io::Result<()>
     requires { limit < two_byte_numbers }
 {
     match wrap::wrap(tape, workspace, limit as u32) {
         Answer::Accepted(lines) => {
             tape::read_tape(tape, letters, Style::default_with([255; 4]));
-            write_lines(lines, workspace, letters)
+            write_lines(rt, lines, workspace, letters)
         }
-        Answer::Refused(number, place) => report::write_refusal(number, place),
+        Answer::Refused(number, place) => report::write_refusal(rt, number, place),
     }
 }
 
 // Wraps tape after tape; false where the sample is cut short.
-fn replay(entries: &[u8], workspace: &mut [u8], letters: &mut [u8]) -> bool {
+fn replay(
+    rt: &impl Print,
+    entries: &[u8],
+    workspace: &mut [u8],
+    letters: &mut [u8],
+) -> io::Result<bool> {
     let mut at = 0;
     while at < entries.len() {
         let end = report::entry_end(entries, at, 4);
         if entries.len() < end {
-            return false;
+            return Ok(false);
         }
         let limit = report::number_at(entries, at);
-        if !print_lines(&entries[at + 4..end], limit, workspace, letters) {
-            return true;
-        }
+        print_lines(rt, &entries[at + 4..end], limit, workspace, letters)?;
         at = end;
     }
-    true
+    Ok(true)
 }
 
-fn main() {
-    let mut entries = io::large_buffer();
-    let mut workspace = io::large_buffer();
-    let mut letters = io::large_buffer();
-    let end = io::read_full(STDIN_FILENO, &mut entries);
+fn main(rt: HostRuntime) -> io::Result<()> {
+    let mut entries = [0; ROOM];
+    let mut workspace = [0; ROOM];
+    let mut letters = [0; ROOM];
+    let end = report::read_full(&mut rt.stdin(), &mut entries)?;
     if end == entries.len() {
-        report::write(b"the sample has more than 65,535 bytes\n");
-        return;
+        return report::write(&rt, b"the sample has more than 65,535 bytes\n");
     }
-    if !replay(&entries[0..end], &mut workspace, &mut letters) {
-        report::write(b"the sample is cut short\n");
+    if !replay(&rt, &entries[0..end], &mut workspace, &mut letters)? {
+        return report::write(&rt, b"the sample is cut short\n");
     }
+    Ok(())
 }

@@ -19,8 +19,11 @@ ghost use Rattle.std.specs.Prelude.{◌+◌, ◌≤◌, ◌<◌, length};
 
 use compositor::Settings;
 use job::{JobRecord, Stripes};
-use libc::STDIN_FILENO;
+use std::io;
 use tape::Answer;
+
+// One byte more than a sample may have, so that a longer one is seen to be too long.
+const ROOM: usize = 65536;
 
 // The bytes of an entry before its end rows.
 const HEADER: usize = 44;
@@ -73,27 +76,34 @@ fn fill(picture: &mut [u8], size: usize)
     }
 }
 
-fn write_answer(answer: Answer, picture: &[u8]) -> bool {
+fn write_answer(rt: &impl Print, answer: Answer, picture: &[u8]) -> io::Result<()> {
     match answer {
-        Answer::Accepted(strokes) => report::write_digest(strokes, report::digest(0, picture)),
-        Answer::Refused(number, place) => report::write_refusal(number, place),
+        Answer::Accepted(strokes) => report::write_digest(rt, strokes, report::digest(0, picture)),
+        Answer::Refused(number, place) => report::write_refusal(rt, number, place),
     }
 }
 
-fn draw(s: Settings, tape: &[u8], workspace: &mut [u8], picture: &mut [u8]) -> bool {
+fn draw(
+    rt: &impl Print,
+    s: Settings,
+    tape: &[u8],
+    workspace: &mut [u8],
+    picture: &mut [u8],
+) -> io::Result<()> {
     let answer = compositor::render_into(s, tape, workspace, picture);
-    write_answer(answer, picture)
+    write_answer(rt, answer, picture)
 }
 
 // Does the Works of a job that was opened, each on what the call before it left.
 fn work(
+    rt: &impl Print,
     s: Settings,
     works: &[u8],
     tape: &[u8],
     workspace: &mut [u8],
     picture: &mut [u8],
     opened: JobRecord,
-) -> bool {
+) -> io::Result<()> {
     let mut record = opened;
     let mut at = 0;
     while WORK <= works.len() - at {
@@ -101,33 +111,30 @@ fn work(
         let budget = long_at(works, at + 1);
         let done = job::work(s, tape, workspace, picture, record, stripe, budget);
         let answer = done.answer;
-        if !write_answer(answer, picture) {
-            return false;
-        }
+        write_answer(rt, answer, picture)?;
         record = done.job;
         at += WORK;
     }
-    true
+    Ok(())
 }
 
 // Opens a job, and does its Works where that is not refused.
 fn open(
+    rt: &impl Print,
     s: Settings,
     stripes: Stripes,
     works: &[u8],
     tape: &[u8],
     workspace: &mut [u8],
     picture: &mut [u8],
-) -> bool {
+) -> io::Result<()> {
     let opened = job::open(s, tape, workspace, picture, stripes);
     let answer = opened.answer;
-    if !write_answer(answer, picture) {
-        return false;
-    }
+    write_answer(rt, answer, picture)?;
     let record = opened.job;
     match answer {
-        Answer::Accepted(_) => work(s, works, tape, workspace, picture, record),
-        Answer::Refused(_, _) => true,
+        Answer::Accepted(_) => work(rt, s, works, tape, workspace, picture, record),
+        Answer::Refused(_, _) => Ok(()),
     }
 }
 
@@ -171,15 +178,15 @@ fn stripes(entry: &[u8], works: usize) -> Stripes
     }
 }
 
-// Makes the calls of one entry, whose Works begin at a place and whose tape begins at another. False
-// where the output takes no more.
+// Makes the calls of one entry, whose Works begin at a place and whose tape begins at another.
 fn print_calls(
+    rt: &impl Print,
     entry: &[u8],
     works: usize,
     start: usize,
     workspace: &mut [u8],
     picture: &mut [u8],
-) -> bool
+) -> io::Result<()>
     requires { (44 ≤ works) × (works ≤ start) × (start ≤ length entry.now) × (65535 ≤ length picture.old) }
 {
     let s = settings(entry);
@@ -187,9 +194,10 @@ fn print_calls(
     fill(picture, size);
     let tape = &entry[start..entry.len()];
     if report::number_at(entry, 38) == 0 {
-        return draw(s, tape, workspace, &mut picture[0..size]);
+        return draw(rt, s, tape, workspace, &mut picture[0..size]);
     }
     open(
+        rt,
         s,
         stripes(entry, works),
         &entry[works..start],
@@ -200,39 +208,42 @@ fn print_calls(
 }
 
 // Makes the calls of entry after entry; false where the sample is cut short.
-fn replay(entries: &[u8], workspace: &mut [u8], picture: &mut [u8]) -> bool
+fn replay(
+    rt: &impl Print,
+    entries: &[u8],
+    workspace: &mut [u8],
+    picture: &mut [u8],
+) -> io::Result<bool>
     requires { 65535 ≤ length picture.old }
 {
     let mut at = 0;
     while at < entries.len() {
         let end = report::entry_end(entries, at, HEADER);
         if entries.len() < end {
-            return false;
+            return Ok(false);
         }
         let entry = &entries[at..end];
         let works = works_start(entry);
         let start = tape_start(entry, works);
         if entry.len() < start {
-            return false;
+            return Ok(false);
         }
-        if !print_calls(entry, works, start, workspace, picture) {
-            return true;
-        }
+        print_calls(rt, entry, works, start, workspace, picture)?;
         at = end;
     }
-    true
+    Ok(true)
 }
 
-fn main() {
-    let mut entries = io::large_buffer();
-    let mut workspace = io::large_buffer();
-    let mut picture = io::large_buffer();
-    let end = io::read_full(STDIN_FILENO, &mut entries);
+fn main(rt: HostRuntime) -> io::Result<()> {
+    let mut entries = [0; ROOM];
+    let mut workspace = [0; ROOM];
+    let mut picture = [0; ROOM];
+    let end = report::read_full(&mut rt.stdin(), &mut entries)?;
     if end == entries.len() {
-        report::write(b"the sample has more than 65,535 bytes\n");
-        return;
+        return report::write(&rt, b"the sample has more than 65,535 bytes\n");
     }
-    if !replay(&entries[0..end], &mut workspace, &mut picture) {
-        report::write(b"the sample is cut short\n");
+    if !replay(&rt, &entries[0..end], &mut workspace, &mut picture)? {
+        return report::write(&rt, b"the sample is cut short\n");
     }
+    Ok(())
 }

@@ -7,45 +7,35 @@
 #![tactic(auto)]
 
 use font::{BitmapFont, GlyphKey};
-use libc::STDOUT_FILENO;
+use std::io;
 
-// Writes a space and a glyph's rows; false where the output takes no more.
-fn print_rows(rows: [u8; 16]) -> bool {
-    if !io::write_all(STDOUT_FILENO, b" ") {
-        return false;
+// Writes a space and a glyph's rows.
+fn print_rows(rt: &impl Print, rows: [u8; 16]) -> io::Result<()> {
+    print!(rt; " ")?;
+    for row in rows {
+        print!(rt; "{row:02x}")?;
     }
-    let mut r = 0;
-    while r < 16 {
-        if !io::print_hex(STDOUT_FILENO, rows[r] as u64, 2) {
-            return false;
-        }
-        r += 1;
-    }
-    true
+    Ok(())
 }
 
-fn print_glyph(regular: &[u8; 4096], bold: &[u8; 4096], code: u32) -> bool {
-    if !io::print_hex(STDOUT_FILENO, code as u64, 4) {
-        return false;
-    }
+fn print_glyph(
+    rt: &impl Print,
+    regular: &[u8; 4096],
+    bold: &[u8; 4096],
+    code: u32,
+) -> io::Result<()> {
+    print!(rt; "{code:04x}")?;
     let key = GlyphKey { mode: 0, code };
-    if !print_rows(font::glyph_rows(regular, key)) {
-        return false;
-    }
-    if !print_rows(font::glyph_rows(bold, key)) {
-        return false;
-    }
-    io::write_all(STDOUT_FILENO, b"\n")
+    print_rows(rt, font::glyph_rows(regular, key))?;
+    print_rows(rt, font::glyph_rows(bold, key))?;
+    println!(rt; "")
 }
 
-fn main() {
+fn main(rt: HostRuntime) -> io::Result<()> {
     let regular = BitmapFont::default_regular().table();
     let bold = BitmapFont::default_bold().table();
-    let mut code = 0;
-    while code <= 256 {
-        if !print_glyph(&regular, &bold, code) {
-            return;
-        }
-        code += 1;
+    for code in 0..=256 {
+        print_glyph(&rt, &regular, &bold, code)?;
     }
+    Ok(())
 }
