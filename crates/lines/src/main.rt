@@ -6,6 +6,7 @@
 ghost use Rattle.std.specs.Prelude.{◌+◌, ◌*◌, ◌≤◌, length};
 
 use std::io;
+use std::io::Read;
 use tape::Answer;
 
 const LIMIT: u32 = 4;
@@ -47,13 +48,14 @@ fn write_lines(rt: &impl Print, table: &[u8], lines: usize) -> io::Result<()>
     write_table(rt, table, lines)
 }
 
-// Wraps what standard input has, as far as the buffer takes it.
+// Wraps what the input has, as far as the buffer takes it.
 fn wrap_input(
-    rt: &(impl Input + Print),
+    rt: &impl Print,
+    input: &mut impl Read,
     buffer: &mut [u8],
     workspace: &mut [u8],
 ) -> io::Result<()> {
-    let end = report::read_full(&mut rt.reader(), buffer)?;
+    let end = report::read_full(input, buffer)?;
     match wrap::wrap(&buffer[0..end], workspace, LIMIT) {
         Answer::Accepted(lines) => write_lines(rt, workspace, lines),
         Answer::Refused(number, place) => report::write_refusal(rt, number, place),
@@ -63,5 +65,5 @@ fn wrap_input(
 fn main(rt: HostRuntime) -> io::Result<()> {
     let mut buffer = [0; ENOUGH];
     let mut workspace = [0; tape::LEAST_ROOM];
-    wrap_input(&rt, &mut buffer, &mut workspace)
+    wrap_input(&rt, &mut rt.stdin(), &mut buffer, &mut workspace)
 }
