@@ -1,3 +1,4 @@
+use Rattle.std.proofs.Common.{arith}
 use mathlib.Core.Path.{refl}
 use Rattle.tape.proofs.CallRead.{too_long, too_small, tape_refused, tape_accepted}
 use Rattle.tape.proofs.read_tape.Goals as goal
@@ -8,7 +9,7 @@ returns-then-tape-gt-MOST_BYTES c = let a = c.args in too_long a.tape.now a.ws.n
 pub returns-then-ws-lt-LEAST_ROOM : goal.returns-then-ws-lt-LEAST_ROOM
 returns-then-ws-lt-LEAST_ROOM c =
     let a = c.args in
-    too_small a.tape.now a.ws.now a.style c.if-tape-gt-MOST_BYTES.false c.if-ws-lt-LEAST_ROOM.true
+    too_small a.tape.now a.ws.now a.style (omega arith) c.if-ws-lt-LEAST_ROOM.true
 
 pub returns-in-Done : goal.returns-in-Done
 returns-in-Done c =
