@@ -10,7 +10,9 @@ use Rattle.tape.specs.Outcome.{accepted, refused}
 use Rattle.tape.specs.Style.{bold_list, italic_list, color_list, inside, default_with, same_style}
 use Rattle.tape.specs.Command.{code_point, is_letter, is_opener, is_scalar, added, fault_of, command_of}
 use Rattle.tape.specs.Runs.{Run, run, merge_into, letters_of}
-use Rattle.tape.specs.Tape.{read, tape_runs, tape_letters}
+use Rattle.tape.specs.Call.{nothing}
+use Rattle.tape.specs.Tape.{least_room, read, tape_runs, tape_letters}
+use Rattle.tape.specs.Stack.{tapes_from, reaches_to, ends_unfit, some_too_long, refuse_stack, tapes_letters, stack_letters}
 use Rattle.tape.specs.Segments.{letter_bytes}
 
 abbrev white : Style
@@ -70,6 +72,64 @@ pub record Cases : Type 0 where
   pub two_four : Refuses (0x04 ∷ 0x11 ∷ 0x00 ∷ []) 2 0
   -- a second 00
   pub one_too_many : Refuses (0x06 ∷ 0x00 ∷ 0x00 ∷ []) 3 2
+
+-- of a buffer of n bytes and these ends, with a workspace of `room` bytes, this is refused before a tape is read
+abbrev RefusesStack : ℕ → ℕ → List ℕ → ℕ → Type 0
+RefusesStack room n es number = refuse_stack (record { tape_bytes = replicate n 0x0c; tape_ends = es }) room (accepted nothing) ≡ refused number 0
+
+abbrev TakesStack : ℕ → List ℕ → Type 0
+TakesStack n es = refuse_stack (record { tape_bytes = replicate n 0x0c; tape_ends = es }) least_room (accepted nothing) ≡ accepted nothing
+
+-- the tapes of these bytes and ends
+abbrev RefusesTapes : List ℕ → List ℕ → ℕ → ℕ → Type 0
+RefusesTapes bytes es number place = stack_letters white (record { tape_bytes = bytes; tape_ends = es }) ≡ refused number place
+
+-- stacks of tapes
+pub record StackCases : Type 0 where
+  -- no tape, nine, an end that falls, a last one that is too small or too large
+  pub none : RefusesStack least_room 0 [] 18
+  pub nine : RefusesStack least_room 0 (replicate 9 0) 18
+  pub falls : RefusesStack least_room 2 (2 ∷ 1 ∷ 2 ∷ []) 18
+  pub too_small : RefusesStack least_room 2 (0 ∷ 1 ∷ []) 18
+  pub too_large : RefusesStack least_room 1 (1 ∷ 2 ∷ []) 18
+  -- one tape, eight, and tapes that are empty
+  pub taken : TakesStack 1 (1 ∷ []) × TakesStack 8 (1 ∷ 2 ∷ 3 ∷ 4 ∷ 5 ∷ 6 ∷ 7 ∷ 8 ∷ []) × TakesStack 0 (0 ∷ []) × TakesStack 1 (0 ∷ 0 ∷ 1 ∷ 1 ∷ [])
+  -- the longest tape, and one that is too long behind another
+  pub longest : TakesStack 16385 (1 ∷ 16385 ∷ [])
+  pub too_long : RefusesStack least_room 16386 (1 ∷ 16386 ∷ []) 10
+  -- 18 before 10, and 10 before 11
+  pub before_10 : RefusesStack least_room 0 (16385 ∷ []) 18
+  pub before_11 : RefusesStack 0 16385 (16385 ∷ []) 10
+  pub room : RefusesStack 65535 0 (0 ∷ []) 11
+  -- a fault's place counts from the buffer's start, and tapes do not run into each other
+  pub second : RefusesTapes (0x01 ∷ 0x06 ∷ []) (1 ∷ 2 ∷ []) 3 2
+  pub unclosed : RefusesTapes (0x06 ∷ 0x00 ∷ []) (1 ∷ 2 ∷ []) 3 1
+  pub stray : RefusesTapes (0x01 ∷ 0x00 ∷ []) (1 ∷ 2 ∷ []) 3 1
+  pub eighth : RefusesTapes (replicate 7 0x01 ++ (0x0c ∷ [])) (1 ∷ 2 ∷ 3 ∷ 4 ∷ 5 ∷ 6 ∷ 7 ∷ 8 ∷ []) 1 7
+  -- the first tape that has one, not the smallest number
+  pub first : RefusesTapes (0x06 ∷ 0x0c ∷ []) (1 ∷ 2 ∷ []) 3 1
+
+pub stack_cases : StackCases
+unfolding ends_unfit reaches_to some_too_long tapes_from tapes_letters tape_runs tape_letters read fault_of command_of code_point is_letter is_opener is_scalar added merge_into letters_of same_style
+stack_cases =
+    record {
+      none = refl;
+      nine = refl;
+      falls = refl;
+      too_small = refl;
+      too_large = refl;
+      taken = (refl, refl, refl, refl);
+      longest = refl;
+      too_long = refl;
+      before_10 = refl;
+      before_11 = refl;
+      room = refl;
+      second = refl;
+      unclosed = refl;
+      stray = refl;
+      eighth = refl;
+      first = refl;
+    }
 
 pub cases : Cases
 unfolding tape_runs tape_letters read fault_of command_of code_point is_letter is_opener is_scalar added merge_into letters_of same_style letter_bytes

@@ -13,6 +13,8 @@ pub mod Bounds  -- what a tape comes to is bounded
 pub mod Calls  -- the contract of a call, for every call: how it is met, what an answer tells
 pub mod Answers  -- for the layers above: how far the reader's outcome goes
 pub mod CallRead  -- from the outer list to the call that reads a tape
+pub mod StackEnds  -- a stack's ends, one after the other; that its tapes can be lent, and which they are
+pub mod StackLetters  -- a stack's letters, by its tapes: all accepted, or the first that is refused
 pub mod MergeAlike  -- runs that merge alike: a text may be cut into texts of the same style
 pub mod WrittenSegments  -- the tape that segments write means the runs that walking them gives
 pub mod StoredLetters  -- for the layers above: a letter read back out of the workspace

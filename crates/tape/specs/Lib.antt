@@ -5,10 +5,12 @@ pub mod Style
 pub mod Command
 pub mod Runs
 pub mod Tape
+pub mod Stack
 pub mod TapeRead
 pub mod Packed
 pub mod Segments
 pub mod Marks
 pub mod Stored
 pub mod Reading
+pub mod Lent
 pub mod Near

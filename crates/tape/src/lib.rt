@@ -6,6 +6,7 @@
 mod command;
 pub mod letter;
 mod reader;
+pub mod stack;
 
 ghost use Rattle.std.specs.Prelude.{◌≡◌, [], ◌∷◌, ◌+◌, ◌*◌, ◌≤◌, ◌<◌, length};
 ghost use Rattle.tape.specs.Style.{default_with, same_style};
