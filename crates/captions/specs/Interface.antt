@@ -1,7 +1,7 @@
 -- What the functions mean that programs in C and Rust call, over the contracts of the calls. Definitions only.
 -- Each does what its call does, on the settings, the stripes and the record that numbers stand for, and gives the
 -- call's answer as one number.
-use Rattle.std.specs.Prelude.{List, ℕ, ◌+◌, get_or, take, drop}
+use Rattle.std.specs.Prelude.{List, ℕ, ◌+◌, take, drop, slice_index}
 use Rattle.font.specs.Colors.{color_bytes}
 use Rattle.tape.specs.Packed.{Numbered}
 use Rattle.wrap.specs.Wrapped.{Wrapped}
@@ -17,23 +17,23 @@ use Rattle.job.specs.Worked.{Opened, Worked}
 abbrev pub settings_of : List ℕ → Settings
 settings_of words =
     record {
-      width = get_or words 0 0;
-      height = get_or words 1 0;
-      default_color = color_bytes (get_or words 2 0);
-      outline_color = color_bytes (get_or words 3 0);
-      line_height_px = get_or words 4 0;
-      bottom_margin_px = get_or words 5 0;
-      outline_px = get_or words 6 0;
-      align = get_or words 7 0;
-      glyph_mode = get_or words 8 0;
-      side_margin_px = get_or words 9 0;
-      slant = get_or words 10 0;
-      outline_cap_px = get_or words 11 0;
+      width = slice_index words 0;
+      height = slice_index words 1;
+      default_color = color_bytes (slice_index words 2);
+      outline_color = color_bytes (slice_index words 3);
+      line_height_px = slice_index words 4;
+      bottom_margin_px = slice_index words 5;
+      outline_px = slice_index words 6;
+      align = slice_index words 7;
+      glyph_mode = slice_index words 8;
+      side_margin_px = slice_index words 9;
+      slant = slice_index words 10;
+      outline_cap_px = slice_index words 11;
     }
 
 -- the stripes from 65 numbers, or from the first 65 of more: the count, and then the end rows
 abbrev pub stripes_of : List ℕ → Stripes
-stripes_of words = record { stripe_count = get_or words 0 0; end_rows = take most_stripes (drop 1 words) }
+stripes_of words = record { stripe_count = slice_index words 0; end_rows = take most_stripes (drop 1 words) }
 
 -- a job record from 129 numbers: its stripes, and then the counters
 abbrev pub record_of : List ℕ → JobRecord

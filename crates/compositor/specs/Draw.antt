@@ -1,5 +1,5 @@
 -- The call Draw, and what calls that draw have in common: document 01, "Carried over, and added". Definitions only.
-use Rattle.std.specs.Prelude.{List, ℕ, ltb, length}
+use Rattle.std.specs.Prelude.{List, ℕ, length, nat_lt}
 use Rattle.tape.specs.Outcome.{Outcome, refuse_if, unless, on_accepted}
 use Rattle.tape.specs.Style.{default_with}
 use Rattle.tape.specs.Tape.{tape_letters, refuse_lengths}
@@ -18,7 +18,7 @@ tape_strokes s tape = on_accepted (drawing s) (tape_letters (default_with s.defa
 
 -- what is refused of settings, and of a picture's buffer of `size` bytes, before anything else: 8, and then 9
 abbrev pub refuse_settings : {A : Type 0} → Settings → ℕ → Outcome A → Outcome A
-refuse_settings s size o = refuse_if (out_of_range s) 8 0 (refuse_if (ltb size (picture_bytes s)) 9 0 o)
+refuse_settings s size o = refuse_if (out_of_range s) 8 0 (refuse_if (nat_lt size (picture_bytes s)) 9 0 o)
 
 -- What a call that draws comes to, with a workspace of `room` bytes and a picture's buffer of `size`: 8, 9, 10, 11;
 -- then the number `extra`, where it is not 0, for what the call has to check besides; and then what the tape comes to.

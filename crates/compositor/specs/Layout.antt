@@ -1,7 +1,7 @@
 -- WHERE LINES STAND: document 01, "Places and strokes", first paragraph, and document 02, S-10. Definitions only.
 -- A position is counted from an origin far left of and above the picture (`origin`, of the part Paint), so that it is
 -- never negative.
-use Rattle.std.specs.Prelude.{cond, ℕ, ◌+◌, ◌-◌, ◌*◌, ◌/◌, min, max, eqb, leb}
+use Rattle.std.specs.Prelude.{cond, ℕ, ◌+◌, ◌-◌, ◌*◌, ◌/◌, min, max, nat_le, ◌==◌}
 use Rattle.font.specs.Font.{cell_w, cell_h, bearing_y}
 use Rattle.font.specs.Paint.{origin}
 use Rattle.compositor.specs.declared.Settings.{Settings}
@@ -34,6 +34,6 @@ line_width columns = columns * cell_w
 -- where the picture is. The side margin enters neither there nor in L.
 unfoldable pub line_start : Settings → ℕ → ℕ
 line_start s w =
-    cond (eqb s.align 0) (origin + (s.width - w) / 2 - (w - s.width) / 2)
-    (cond (leb s.align 2) (origin + s.side_margin_px)
+    cond (s.align == 0) (origin + (s.width - w) / 2 - (w - s.width) / 2)
+    (cond (nat_le s.align 2) (origin + s.side_margin_px)
     (origin + s.width - w - s.side_margin_px))

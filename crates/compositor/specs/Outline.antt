@@ -1,5 +1,5 @@
 -- The outline's displacements: document 01, "Places and strokes", second paragraph; 02, S-10. Definitions only.
-use Rattle.std.specs.Prelude.{Bool, cond, List, [], ◌∷◌, ◌++◌, ℕ, zero, suc, ◌+◌, ◌-◌, ◌*◌, min, max, eqb}
+use Rattle.std.specs.Prelude.{Bool, cond, List, [], ◌∷◌, ◌++◌, ℕ, zero, suc, ◌+◌, ◌-◌, ◌*◌, min, max, ◌==◌}
 use Rattle.compositor.specs.declared.Settings.{Settings}
 
 -- o, how many pixels of outline are drawn
@@ -13,7 +13,7 @@ distance o d = d - o + (o - d)
 
 -- the larger of the two distances is exactly o
 abbrev pub at_distance : ℕ → ℕ → ℕ → Bool
-at_distance o dx dy = eqb (max (distance o dx) (distance o dy)) o
+at_distance o dx dy = max (distance o dx) (distance o dy) == o
 
 -- of the row dy, the displacements of the n columns from dx on
 unfoldable pub displacement_row : ℕ → ℕ → ℕ → ℕ → List (ℕ × ℕ)
@@ -27,4 +27,4 @@ displacement_rows o dy (suc n) = displacement_row o dy 0 (2 * o + 1) ++ displace
 
 -- the outline's displacements, rows from −o up, in each columns from −o up; none where o is 0
 unfoldable pub displacements : ℕ → List (ℕ × ℕ)
-displacements o = cond (eqb o 0) [] (displacement_rows o 0 (2 * o + 1))
+displacements o = cond (o == 0) [] (displacement_rows o 0 (2 * o + 1))

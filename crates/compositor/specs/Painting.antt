@@ -1,5 +1,5 @@
 -- Promises: what the painter's functions ask of and tell each other. No reader of the deposit needs this file.
-use Rattle.std.specs.Prelude.{◌≡◌, Bool, true, false, ◌||◌, List, ℕ, ◌+◌, ◌-◌, ◌*◌, ◌≤◌, ◌<◌, eqb, leb, length}
+use Rattle.std.specs.Prelude.{◌≡◌, Bool, true, false, ◌||◌, List, ℕ, ◌+◌, ◌-◌, ◌*◌, ◌≤◌, ◌<◌, length, nat_le, ◌==◌}
 use Rattle.std.proofs.Math.Seq.{slice}
 use Rattle.font.specs.Font.{cell_h, bearing_y, table_of}
 use Rattle.font.specs.Slant.{row_offsets}
@@ -42,13 +42,13 @@ after w n = record { from = w.from - n; to = w.to - n }
 
 -- the window has none of the next n strokes
 abbrev pub misses : Window → ℕ → Bool
-misses w n = leb n w.from || eqb w.to 0
+misses w n = nat_le n w.from || w.to == 0
 
 -- glyphs on base lines from position `high` down to position `low`, and outlines of o around them, are all above the
 -- lent rows, or all below them
 unfoldable pub off_rows : Rows → ℕ → ℕ → ℕ → Bool
 off_rows rows high low o =
-    leb (low + o + (cell_h - bearing_y)) (origin + rows.first) || leb (origin + rows.first + rows.count + o + bearing_y) high
+    nat_le (low + o + (cell_h - bearing_y)) (origin + rows.first) || nat_le (origin + rows.first + rows.count + o + bearing_y) high
 
 -- the lent rows with strokes
 abbrev pub painted : Rows → List Stroke → List ℕ → List ℕ

@@ -2,7 +2,7 @@
 -- They are the definitions of the parts Slant, Paint, Layout and Outline once more, for whoever builds with numbers
 -- that may be below 0. It is proved that both are the same for every stroke of a caption, so that there no difference
 -- stops at 0, but beside a test that fails.
-use Rattle.std.specs.Prelude.{cond, ℕ, zero, suc, ◌+◌, ◌*◌, ◌/◌, max, ltb, eqb, leb, ℤ, pos, negsuc, neg_ℤ, ◌+ℤ◌, ◌-ℤ◌, length, get_or}
+use Rattle.std.specs.Prelude.{cond, ℕ, zero, suc, ◌+◌, ◌*◌, ◌/◌, max, ℤ, pos, negsuc, neg_ℤ, ◌+ℤ◌, ◌-ℤ◌, length, nat_le, nat_lt, slice_index, ◌==◌}
 use mathlib.Core.List.{List, [], ◌∷◌, map, flatten}
 use Rattle.font.specs.Font.{cell_w, cell_h, bearing_y}
 use Rattle.font.specs.Slant.{nearest}
@@ -25,8 +25,8 @@ half (negsuc n) = neg_ℤ (pos (suc n / 2))
 -- `line_start`: the side margin, or width − w less it, or (width − w)/2 towards zero
 abbrev pub plain_start : Settings → ℕ → ℤ
 plain_start s w =
-    cond (eqb s.align 0) (half (pos s.width -ℤ pos w))
-    (cond (leb s.align 2) (pos s.side_margin_px)
+    cond (s.align == 0) (half (pos s.width -ℤ pos w))
+    (cond (nat_le s.align 2) (pos s.side_margin_px)
     (pos s.width -ℤ pos w -ℤ pos s.side_margin_px))
 
 -- `base_line`: the last base line, less h for each line below
@@ -61,17 +61,17 @@ up_to o = onward (neg_ℤ (pos o)) (2 * o + 1)
 -- of the row dy, those of the columns for which the larger distance is exactly o
 abbrev pub plain_row : ℕ → ℤ → List ℤ → List (ℤ × ℤ)
 plain_row o dy [] = []
-plain_row o dy (dx ∷ dxs) = cond (eqb (max (magnitude dx) (magnitude dy)) o) ((dx, dy) ∷ plain_row o dy dxs) (plain_row o dy dxs)
+plain_row o dy (dx ∷ dxs) = cond (max (magnitude dx) (magnitude dy) == o) ((dx, dy) ∷ plain_row o dy dxs) (plain_row o dy dxs)
 
 -- `displacements`: each dx columns to the right and dy rows down
 abbrev pub plain_displacements : ℕ → List (ℤ × ℤ)
-plain_displacements o = cond (eqb o 0) [] (flatten (map (λ dy. plain_row o dy (up_to o)) (up_to o)))
+plain_displacements o = cond (o == 0) [] (flatten (map (λ dy. plain_row o dy (up_to o)) (up_to o)))
 
 -- ---- what a stroke has on a row
 
 -- `paint_column`: a row with the color k blended into its column z; a column that is not on the row changes nothing
 abbrev pub plain_column : List ℕ → ℤ → List ℕ → List ℕ
-plain_column k (pos c) row = cond (leb (4 * c + 4) (length row)) (blend_pixel k (4 * c) row) row
+plain_column k (pos c) row = cond (nat_le (4 * c + 4) (length row)) (blend_pixel k (4 * c) row) row
 plain_column k (negsuc c) row = row
 
 -- `paint_columns`: the first n columns of a glyph's row, of which column 0 is at z
@@ -84,7 +84,7 @@ plain_columns k bits z (suc n) row =
 -- row r of a glyph whose left column is at x, where the glyph has such a row
 abbrev pub plain_glyph_row : List ℕ → ℕ → List ℕ → ℤ → ℤ → List ℕ → List ℕ
 plain_glyph_row rows slant k x (pos r) row =
-    cond (ltb r cell_h) (plain_columns k (get_or rows r 0) (x +ℤ plain_offset slant r) cell_w row) row
+    cond (nat_lt r cell_h) (plain_columns k (slice_index rows r) (x +ℤ plain_offset slant r) cell_w row) row
 plain_glyph_row rows slant k x (negsuc r) row = row
 
 -- `stroke_row`: the picture's row y with what a stroke has there, its base line at base

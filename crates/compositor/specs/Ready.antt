@@ -9,13 +9,13 @@ use Rattle.font.specs.Font.{cell_w}
 use Rattle.font.specs.Slant.{most_slant}
 use Rattle.wrap.specs.Shown.{inked_letters}
 use Rattle.wrap.specs.Laid.{two_byte_numbers, inked_through}
-pub use Rattle.wrap.specs.Laid.{most_lines}
 use Rattle.compositor.specs.declared.Settings.{Settings}
 use Rattle.compositor.specs.declared.Cue.{Cue}
 use Rattle.compositor.specs.Settings.{most_pixels, most_line_height, most_side_margin, most_outline_cap, picture_bytes}
 use Rattle.compositor.specs.Order.{Stroke}
 use Rattle.compositor.specs.Draw.{Tapes, tape_strokes, cue_call}
 use Rattle.compositor.specs.Read.{letters_at, letters_from, strokes_in, Readable}
+pub use Rattle.wrap.specs.Laid.{most_lines}
 
 -- ---- what is checked before a tape is read
 

@@ -1,6 +1,6 @@
 -- The settings: document 01, "Settings", and document 02, S-3 and S-10. Definitions only.
 -- A call may be given any numbers below 2^32; `out_of_range` says which are refused.
-use Rattle.std.specs.Prelude.{Bool, ◌||◌, ℕ, ◌*◌, ltb}
+use Rattle.std.specs.Prelude.{Bool, ◌||◌, ℕ, ◌*◌, nat_lt}
 use Rattle.font.specs.Slant.{most_slant}
 use Rattle.compositor.specs.declared.Settings.{Settings}
 
@@ -26,12 +26,12 @@ most_outline_cap = 4
 
 unfoldable pub out_of_range : Settings → Bool
 out_of_range s =
-    ltb most_pixels s.width
-    || (ltb most_pixels s.height
-    || (ltb most_line_height s.line_height_px
-    || (ltb last_align s.align
-    || (ltb last_glyph_mode s.glyph_mode
-    || (ltb most_side_margin s.side_margin_px || (ltb most_slant s.slant || ltb most_outline_cap s.outline_cap_px))))))
+    nat_lt most_pixels s.width
+    || (nat_lt most_pixels s.height
+    || (nat_lt most_line_height s.line_height_px
+    || (nat_lt last_align s.align
+    || (nat_lt last_glyph_mode s.glyph_mode
+    || (nat_lt most_side_margin s.side_margin_px || (nat_lt most_slant s.slant || nat_lt most_outline_cap s.outline_cap_px))))))
 
 -- the bytes of a row, and of the picture: its rows from the top, each its pixels from the left, four bytes a pixel
 abbrev pub row_bytes : Settings → ℕ

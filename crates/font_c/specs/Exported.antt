@@ -1,5 +1,5 @@
 -- What the exported functions mean, over the definitions of `font`. Definitions only.
-use Rattle.std.specs.Prelude.{◌≡◌, Bool, cond, ◌&&◌, List, ℕ, ◌*◌, ◌/◌, leb, ltb, length}
+use Rattle.std.specs.Prelude.{◌≡◌, Bool, cond, ◌&&◌, List, ℕ, ◌*◌, ◌/◌, length, nat_le, nat_lt}
 use Rattle.font.specs.Font.{table_of, glyph_rows}
 use Rattle.font.specs.Colors.{color_bytes}
 use Rattle.font.specs.Slant.{most_slant, row_offsets}
@@ -9,13 +9,13 @@ use Rattle.font.specs.Lent.{most_lent}
 
 -- a position from 2^25 up to 2^27; the picture's corner is at 2^26
 unfoldable pub near : ℕ → Bool
-near x = leb (origin / 2) x && ltb x (2 * origin)
+near x = nat_le (origin / 2) x && nat_lt x (2 * origin)
 
 -- n bytes hold the rows of a part, the slant is one of the nine, and the stroke's position is near
 unfoldable pub admitted : ℕ → ℕ → ℕ → ℕ → ℕ → ℕ → ℕ → Bool
 admitted n width rows first slant x y =
-    leb slant most_slant
-    && (leb width most_lent && (leb rows most_lent && (leb first most_lent && (near x && (near y && leb (rows * (4 * width)) n)))))
+    nat_le slant most_slant
+    && (nat_le width most_lent && (nat_le rows most_lent && (nat_le first most_lent && (near x && (near y && nat_le (rows * (4 * width)) n)))))
 
 -- the part l after one stroke; a part, a slant, or a position, that is not admitted changes nothing
 unfoldable pub stroked : ℕ → ℕ → ℕ → ℕ → ℕ → Bool → ℕ → ℕ → ℕ → ℕ → List ℕ → List ℕ

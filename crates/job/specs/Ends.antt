@@ -1,7 +1,7 @@
 -- STRIPES BY THEIR ENDS: document 02, S-4. Definitions only.
 -- No player needs this part. `StripesByEnds`, at the end, is the claim of which ends are refused, where the rows of a
 -- stripe lie, what is never read, and what stripes of one height are; it is proved.
-use Rattle.std.specs.Prelude.{◌≡◌, true, cond, ◌||◌, List, ℕ, ◌*◌, ◌/◌, ◌≤◌, ◌<◌, eqb, ltb, length, get_or}
+use Rattle.std.specs.Prelude.{◌≡◌, true, cond, ◌||◌, List, ℕ, ◌*◌, ◌/◌, ◌≤◌, ◌<◌, length, nat_lt, slice_index, ◌==◌}
 use Rattle.compositor.specs.declared.Settings.{Settings}
 use Rattle.compositor.specs.Order.{Stroke}
 use Rattle.compositor.specs.Draw.{Tapes, cue_call, draw_call}
@@ -44,7 +44,7 @@ pub record StripeRows (s : Settings) (d : Division) : Type 0 where
 pub record SameUsed (a b : Stripes) : Type 0 where
   pub same_count : a.stripe_count ≡ b.stripe_count
   pub same_length : length a.end_rows ≡ length b.end_rows
-  pub same_ends : (k : ℕ) → k < a.stripe_count → get_or a.end_rows k 0 ≡ get_or b.end_rows k 0
+  pub same_ends : (k : ℕ) → k < a.stripe_count → slice_index a.end_rows k ≡ slice_index b.end_rows k
 
 -- Open comes to the same with either, since it is told the division alone. So does Work on records that differ there
 -- alone; it leaves the same pictures and counters, and hands the stripes back as they were.
@@ -61,8 +61,8 @@ pub record UnreadEnds (s : Settings) (a b : JobRecord) : Type 0 where
 -- Stripes of h rows are refused exactly where h was, while stripes had one height: it is 0, or gives more than 64.
 -- Stripe k is there where row k · h is, and row y is in stripe y / h.
 pub record EqualStripes (s : Settings) (h : ℕ) : Type 0 where
-  pub old_fault : stripes_fault s (equal_ends h s.height) ≡ cond (eqb h 0 || ltb (most_stripes * h) s.height) 13 0
-  pub old_stripes : 0 < h → (k : ℕ) → has_stripe (equal_ends h s.height) k ≡ ltb (k * h) s.height
+  pub old_fault : stripes_fault s (equal_ends h s.height) ≡ cond (h == 0 || nat_lt (most_stripes * h) s.height) 13 0
+  pub old_stripes : 0 < h → (k : ℕ) → has_stripe (equal_ends h s.height) k ≡ nat_lt (k * h) s.height
   pub old_stripe : 0 < h → (y : ℕ) → y < s.height → stripe_of (equal_ends h s.height) y ≡ y / h
 
 -- ---- the claim

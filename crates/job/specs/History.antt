@@ -1,7 +1,7 @@
 -- WHAT ANY LIST OF CALLS LEAVES: one claim about an accepted Open and every list of Work calls after it, refused ones
 -- among them. `Demand3`, near the end, is the claim, and it is proved; so is `Possible`, that the claim is never empty.
 -- Calls are told by the records that are the contracts of Open and Work. Definitions only.
-use Rattle.std.specs.Prelude.{◌≡◌, false, cond, List, [], ◌∷◌, map, ℕ, ◌+◌, ◌-◌, ◌*◌, ◌<◌, min, eqb, ltb, length, take, drop}
+use Rattle.std.specs.Prelude.{◌≡◌, false, cond, List, [], ◌∷◌, map, ℕ, ◌+◌, ◌-◌, ◌*◌, ◌<◌, min, length, take, drop, nat_lt, ◌==◌}
 use Rattle.tape.specs.declared.Answer.{Answer}
 use Rattle.tape.specs.Outcome.{accepted}
 use Rattle.tape.specs.Tape.{least_room}
@@ -47,17 +47,17 @@ granted n (Answer.Refused number place) = 0
 unfoldable pub count : List Stroke → List Entry → ℕ → ℕ
 count ts [] k = 0
 count ts (entry ∷ before) k =
-    cond (eqb entry.stripe k) (min (length ts) (count ts before k + granted entry.budget entry.answer)) (count ts before k)
+    cond (entry.stripe == k) (min (length ts) (count ts before k + granted entry.budget entry.answer)) (count ts before k)
 
 -- the budgets accepted for stripe k, summed as whole numbers
 unfoldable pub budgets : ℕ → List Entry → ℕ
 budgets k [] = 0
-budgets k (entry ∷ entries) = cond (eqb entry.stripe k) (granted entry.budget entry.answer) 0 + budgets k entries
+budgets k (entry ∷ entries) = cond (entry.stripe == k) (granted entry.budget entry.answer) 0 + budgets k entries
 
 -- what is due of a call after others: 11, 12, or by how much it raised its stripe's c
 abbrev pub due_of : List Stroke → Division → Entry → List Entry → Answer
 due_of ts d entry before =
-    cond (ltb entry.room least_room) (Answer.Refused 11 0)
+    cond (nat_lt entry.room least_room) (Answer.Refused 11 0)
     (cond (has_stripe d entry.stripe) (Answer.Accepted (count ts (entry ∷ before) entry.stripe - count ts before entry.stripe))
     (Answer.Refused 12 0))
 

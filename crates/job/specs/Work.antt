@@ -1,5 +1,5 @@
 -- The calls Open and Work: document 01, "Open and Work" and "Who is stopped, and by what". Definitions only.
-use Rattle.std.specs.Prelude.{cond, not, List, ℕ, ◌+◌, eqb, length, take, drop}
+use Rattle.std.specs.Prelude.{cond, not, List, ℕ, ◌+◌, length, take, drop, ◌==◌}
 use Rattle.font.specs.Paint.{each_row}
 use Rattle.tape.specs.Outcome.{Outcome, accepted, refuse_if, and_then}
 use Rattle.compositor.specs.declared.Settings.{Settings}
@@ -33,7 +33,7 @@ step_strokes job k n ts = take n (drop (counter_of job k) ts)
 -- the picture's buffer with strokes on the rows of stripe k; all other rows stay, and so do the bytes after them
 abbrev pub on_stripe : Settings → Division → ℕ → List Stroke → List ℕ → List ℕ
 on_stripe s d k ts bytes =
-    each_row (λ y row. cond (eqb (stripe_of d y) k) (strokes_on ts y row) row) (row_bytes s) s.height 0 bytes
+    each_row (λ y row. cond (stripe_of d y == k) (strokes_on ts y row) row) (row_bytes s) s.height 0 bytes
 
 -- what an accepted Work leaves that has done the strokes `done`: they are on the rows of stripe k, and its counter has
 -- grown by as many as they are

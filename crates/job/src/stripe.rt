@@ -1,5 +1,5 @@
 // Whether stripes fit a picture, and the rows of one.
-ghost use Rattle.std.specs.Prelude.{◌≡◌, true, cond, ◌≤◌, ltb, length};
+ghost use Rattle.std.specs.Prelude.{◌≡◌, true, cond, ◌≤◌, length, nat_lt, ◌==◌};
 ghost use Rattle.compositor.specs.Settings.{picture_bytes};
 ghost use Rattle.compositor.specs.Read.{strokes_in};
 ghost use Rattle.compositor.specs.Painting.{cut};
@@ -38,7 +38,7 @@ pub fn fault(s: Settings, stripes: Stripes) -> u8
 
 // The most strokes that a sound counter of stripe k says, of so many stripes.
 pub fn most_counted(count: usize, k: usize, total: usize) -> usize
-    ensures { result ≡ cond (ltb k count) total 0 }
+    ensures { result ≡ cond (nat_lt k count) total 0 }
 {
     if k < count { total } else { 0 }
 }

@@ -1,7 +1,7 @@
 -- WHAT A CALL ANSWERS AND LEAVES: document 01, "Who is stopped, and by what". Definitions only.
 -- What a call comes to is an outcome, and all else that can be seen of the call follows from it. So the contract of
 -- every call is one claim, `Came`: the call comes to this outcome, and here is what the outcome leaves.
-use Rattle.std.specs.Prelude.{◌≡◌, Bool, true, ◌&&◌, ◌||◌, List, ℕ, eqb, leb}
+use Rattle.std.specs.Prelude.{◌≡◌, Bool, true, ◌&&◌, ◌||◌, List, ℕ, nat_le, ◌==◌}
 use Rattle.tape.specs.declared.Answer.{Answer}
 use Rattle.tape.specs.Outcome.{Outcome, accepted, refused, on_accepted}
 
@@ -17,7 +17,7 @@ changed f x (refused number place) = x
 
 -- the refusals that leave the workspace as it was: 8 to 11, and 13
 unfoldable pub keeps_workspace : ℕ → Bool
-keeps_workspace number = leb 8 number && leb number 11 || eqb number 13
+keeps_workspace number = nat_le 8 number && nat_le number 11 || number == 13
 
 -- the workspace before and after a call: accepted, it is as `Holds` says; after these refusals it is as it was; else
 -- its contents are free

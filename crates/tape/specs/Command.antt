@@ -8,7 +8,7 @@
 --       is no run
 --   09  a voice: what 02, 03 and 04 say up to a 00 is its name, shown with ": " behind it; then a list, up to its 00
 --   0B  a time mark, which shows nothing and is no run
-use Rattle.std.specs.Prelude.{Bool, cond, not, ◌&&◌, ◌||◌, List, [], ◌∷◌, ℕ, ◌+◌, ◌*◌, leb, ltb, eqb, length, get_or, take}
+use Rattle.std.specs.Prelude.{Bool, cond, not, ◌&&◌, ◌||◌, List, [], ◌∷◌, ℕ, ◌+◌, ◌*◌, length, take, nat_le, nat_lt, slice_index, ◌==◌}
 use Rattle.tape.specs.Style.{Opener, bold_list, italic_list, color_list, plain_list}
 
 -- the deepest list, and the most letters
@@ -23,7 +23,7 @@ abbrev pub operand_widths : List ℕ
 operand_widths = 0 ∷ 0 ∷ 1 ∷ 2 ∷ 3 ∷ 0 ∷ 0 ∷ 0 ∷ 3 ∷ 0 ∷ 0 ∷ 0 ∷ []
 
 abbrev pub operand_width : ℕ → ℕ
-operand_width c = get_or operand_widths c 0
+operand_width c = slice_index operand_widths c
 
 -- the number that bytes spell, high byte first, behind the number v
 abbrev pub number_from : ℕ → List ℕ → ℕ
@@ -36,32 +36,32 @@ code_point c rest = number_from 0 (take (operand_width c) rest)
 
 -- 02, 03, 04: a letter
 unfoldable pub is_letter : ℕ → Bool
-is_letter c = leb 0x02 c && leb c 0x04
+is_letter c = nat_le 0x02 c && nat_le c 0x04
 
 -- 06 to 0A: a list is opened
 unfoldable pub is_opener : ℕ → Bool
-is_opener c = leb 0x06 c && leb c 0x0a
+is_opener c = nat_le 0x06 c && nat_le c 0x0a
 
 -- a code point that is no surrogate, and at most 10FFFF
 unfoldable pub is_scalar : ℕ → Bool
-is_scalar v = ltb v 0xd800 || (ltb 0xdfff v && leb v 0x10ffff)
+is_scalar v = nat_lt v 0xd800 || (nat_lt 0xdfff v && nat_le v 0x10ffff)
 
 -- how many letters a command adds: a letter or a break one, and the 00 of a name two
 unfoldable pub added : Bool → ℕ → ℕ
-added naming c = cond (leb 0x02 c && leb c 0x05) 1 (cond (eqb c 0x00 && naming) 2 0)
+added naming c = cond (nat_le 0x02 c && nat_le c 0x05) 1 (cond (c == 0x00 && naming) 2 0)
 
 -- The faults that a command may have, each with its test, in the order in which they are looked for. Command c stands
 -- before the bytes `rest`; `naming` says whether in a voice's name; `depth` lists are open; and n letters came before
 -- it.
 abbrev pub fault_tests : Bool → ℕ → ℕ → ℕ → List ℕ → List (ℕ × Bool)
 fault_tests naming depth n c rest =
-    (1, ltb 0x0b c)  -- an unknown command
-    ∷ (7, naming && not (eqb c 0x00 || is_letter c))  -- neither a letter nor 00, in a name
-    ∷ (5, is_opener c && eqb depth deepest)  -- an opener in the deepest list
-    ∷ (2, ltb (length rest) (operand_width c))  -- operands are missing
+    (1, nat_lt 0x0b c)  -- an unknown command
+    ∷ (7, naming && not (c == 0x00 || is_letter c))  -- neither a letter nor 00, in a name
+    ∷ (5, is_opener c && depth == deepest)  -- an opener in the deepest list
+    ∷ (2, nat_lt (length rest) (operand_width c))  -- operands are missing
     ∷ (4, is_letter c && not (is_scalar (code_point c rest)))  -- a surrogate, or over 10FFFF
-    ∷ (6, ltb most_letters (n + added naming c))  -- a letter too many
-    ∷ (3, eqb c 0x00 && (not naming && eqb depth 0))  -- a 00 in the outer list
+    ∷ (6, nat_lt most_letters (n + added naming c))  -- a letter too many
+    ∷ (3, c == 0x00 && (not naming && depth == 0))  -- a 00 in the outer list
     ∷ []
 
 -- the number of the first test that holds, and 0 where none does
@@ -89,18 +89,18 @@ pub data Command : Type 0 where
 -- 06 bold, 07 italic, 08 color, else a plain group
 abbrev pub opener_of : ℕ → List ℕ → Opener
 opener_of c rest =
-    cond (eqb c 0x06) bold_list
-    (cond (eqb c 0x07) italic_list
-    (cond (eqb c 0x08) (color_list (get_or rest 0 0) (get_or rest 1 0) (get_or rest 2 0))
+    cond (c == 0x06) bold_list
+    (cond (c == 0x07) italic_list
+    (cond (c == 0x08) (color_list (slice_index rest 0) (slice_index rest 1) (slice_index rest 2))
     plain_list))
 
 -- the command c before the bytes `rest`; a break, 05, is the letter 0A
 unfoldable pub command_of : ℕ → List ℕ → Command
 command_of c rest =
-    cond (eqb c 0x00) ends
-    (cond (eqb c 0x01) (shows [])
+    cond (c == 0x00) ends
+    (cond (c == 0x01) (shows [])
     (cond (is_letter c) (shows (code_point c rest ∷ []))
-    (cond (eqb c 0x05) (shows (0x0a ∷ []))
-    (cond (eqb c 0x09) names
-    (cond (eqb c 0x0b) time_mark
+    (cond (c == 0x05) (shows (0x0a ∷ []))
+    (cond (c == 0x09) names
+    (cond (c == 0x0b) time_mark
     (opens (opener_of c rest)))))))

@@ -1,5 +1,5 @@
 -- Promises: the tapes of a stack by their numbers, and that each can be lent. No reader of the deposit needs this file.
-use Rattle.std.specs.Prelude.{List, ◌∷◌, ℕ, ◌-◌, ◌*◌, ◌≤◌, ◌<◌, length, get_or, take, drop}
+use Rattle.std.specs.Prelude.{List, ◌∷◌, ℕ, ◌-◌, ◌*◌, ◌≤◌, ◌<◌, length, take, drop, slice_index}
 use Rattle.tape.specs.Tape.{most_bytes}
 use Rattle.tape.specs.Stack.{Tapes, most_tapes}
 
@@ -13,10 +13,10 @@ module _ (t : Tapes) where
   tape_count = length t.tape_ends
 
   abbrev pub begin_of : ℕ → ℕ
-  begin_of i = get_or (0 ∷ t.tape_ends) i 0
+  begin_of i = slice_index (0 ∷ t.tape_ends) i
 
   abbrev pub end_of : ℕ → ℕ
-  end_of i = get_or t.tape_ends i 0
+  end_of i = slice_index t.tape_ends i
 
   abbrev pub tape_at : ℕ → List ℕ
   tape_at i = take (end_of i - begin_of i) (drop (begin_of i) t.tape_bytes)

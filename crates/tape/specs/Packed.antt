@@ -1,5 +1,5 @@
 -- AN ANSWER AS ONE NUMBER, as the functions for C give it. Definitions only.
-use Rattle.std.specs.Prelude.{◌≡◌, cond, ℕ, ◌+◌, ◌*◌, ◌/◌, ◌%◌, ◌^◌, ltb}
+use Rattle.std.specs.Prelude.{◌≡◌, cond, ℕ, ◌+◌, ◌*◌, ◌/◌, ◌%◌, ◌^◌, nat_lt}
 use Rattle.tape.specs.declared.Answer.{Answer}
 
 -- itself, or the sum of a refusal's place and 2^32 times its number
@@ -9,7 +9,7 @@ packed (Answer.Refused number place) = number * 2 ^ 32 + place
 
 -- the answer that a number stands for, as a caller reads it: the upper half is 0, or a refusal's number
 unfoldable pub unpacked : ℕ → Answer
-unpacked r = cond (ltb r (2 ^ 32)) (Answer.Accepted r) (Answer.Refused (r / 2 ^ 32) (r % 2 ^ 32))
+unpacked r = cond (nat_lt r (2 ^ 32)) (Answer.Accepted r) (Answer.Refused (r / 2 ^ 32) (r % 2 ^ 32))
 
 -- a function for C answers r: it does what the call does, and r is the call's answer as one number
 pub record Numbered (Does : Answer → Type 0) (r : ℕ) : Type 0 where

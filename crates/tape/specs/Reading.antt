@@ -1,5 +1,5 @@
 -- Promises: what the reader's functions ask of and tell each other. No reader of the deposit needs this file.
-use Rattle.std.specs.Prelude.{◌≡◌, Bool, false, not, ◌&&◌, List, ℕ, ◌+◌, ◌*◌, ◌≤◌, ◌<◌, leb, ltb, eqb, length, get_or, drop}
+use Rattle.std.specs.Prelude.{◌≡◌, Bool, false, not, ◌&&◌, List, ℕ, ◌+◌, ◌*◌, ◌≤◌, ◌<◌, length, drop, nat_le, nat_lt, slice_index, ◌==◌}
 use Rattle.tape.specs.declared.Style.{Style}
 use Rattle.tape.specs.declared.State.{State}
 use Rattle.tape.specs.declared.Step.{Step}
@@ -43,7 +43,7 @@ most_added = 2
 
 -- the command byte at a place, and the bytes behind it
 abbrev pub byte_at : List ℕ → ℕ → ℕ
-byte_at tape at = get_or tape at 0
+byte_at tape at = slice_index tape at
 
 abbrev pub rest_at : List ℕ → ℕ → List ℕ
 rest_at tape at = drop (at + 1) tape
@@ -90,7 +90,7 @@ pub record Leaf (tape ws : List ℕ) (st : State) : Type 0 where
 -- whether the command at a place is a letter of one byte, whole, and after so few letters that it has room
 unfoldable pub short_letter : List ℕ → ℕ → ℕ → Bool
 short_letter tape at count =
-    eqb (byte_at tape at) 0x02 && (leb (operand_width 0x02) (length (rest_at tape at)) && ltb count most_letters)
+    byte_at tape at == 0x02 && (nat_le (operand_width 0x02) (length (rest_at tape at)) && nat_lt count most_letters)
 
 -- ---- what is told
 

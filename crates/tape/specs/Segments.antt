@@ -1,6 +1,6 @@
 -- The other reading of a tape: the segments that it writes, and the runs that walking them gives.
 -- That the two readings agree is proved. Definitions only.
-use Rattle.std.specs.Prelude.{◌≡◌, Bool, true, cond, ◌&&◌, List, [], ◌∷◌, ◌++◌, ℕ, suc, ◌+◌, ◌/◌, ◌%◌, ◌≤◌, ◌<◌, max, ltb, length}
+use Rattle.std.specs.Prelude.{◌≡◌, Bool, true, cond, ◌&&◌, List, [], ◌∷◌, ◌++◌, ℕ, suc, ◌+◌, ◌/◌, ◌%◌, ◌≤◌, ◌<◌, max, length, nat_lt}
 use Rattle.tape.specs.declared.Style.{Style}
 use Rattle.tape.specs.Style.{Opener, bold_list, italic_list, color_list, plain_list, inside}
 use Rattle.tape.specs.Command.{deepest, most_letters, is_scalar}
@@ -39,8 +39,8 @@ abbrev mutual
 -- a letter, in the shortest command that holds its code point
 unfoldable pub letter_bytes : ℕ → List ℕ
 letter_bytes v =
-    cond (ltb v 0x100) (0x02 ∷ v ∷ [])
-    (cond (ltb v 0x10000) (0x03 ∷ v / 256 ∷ v % 256 ∷ []) (0x04 ∷ v / 65536 ∷ v / 256 % 256 ∷ v % 256 ∷ []))
+    cond (nat_lt v 0x100) (0x02 ∷ v ∷ [])
+    (cond (nat_lt v 0x10000) (0x03 ∷ v / 256 ∷ v % 256 ∷ []) (0x04 ∷ v / 65536 ∷ v / 256 % 256 ∷ v % 256 ∷ []))
 
 abbrev pub letters_bytes : List ℕ → List ℕ
 letters_bytes [] = []
@@ -108,7 +108,7 @@ are_scalars (v ∷ vs) = is_scalar v && are_scalars vs
 abbrev pub is_writable : Opener → Bool
 is_writable bold_list = true
 is_writable italic_list = true
-is_writable (color_list red green blue) = ltb red 256 && (ltb green 256 && ltb blue 256)
+is_writable (color_list red green blue) = nat_lt red 256 && (nat_lt green 256 && nat_lt blue 256)
 is_writable plain_list = true
 
 abbrev mutual

@@ -2,7 +2,7 @@
 -- Cues that overlap are drawn as one picture: of two who speak at once each has a tape of its own. The tapes, up to
 -- eight, are handed over end to end in one buffer, with the end of each. Each is a tape by itself: it is read from its
 -- own start, and ends where it ends.
-use Rattle.std.specs.Prelude.{Bool, false, not, ◌&&◌, ◌||◌, List, [], ◌∷◌, ℕ, ◌+◌, ◌-◌, eqb, leb, ltb, length, take, drop}
+use Rattle.std.specs.Prelude.{Bool, false, not, ◌&&◌, ◌||◌, List, [], ◌∷◌, ℕ, ◌+◌, ◌-◌, length, take, drop, nat_le, nat_lt, ◌==◌}
 use Rattle.tape.specs.declared.Style.{Style}
 use Rattle.tape.specs.Outcome.{Outcome, accepted, refuse_if, on_accepted, and_then, further}
 use Rattle.tape.specs.Runs.{Letter}
@@ -33,25 +33,25 @@ tapes_of tapes = tapes_from tapes.tape_bytes 0 tapes.tape_ends
 -- ends that do not fall, from a place to a last one: each is at or past the one before it, the first at or past the
 -- place; where there is none, the place itself is the last
 unfoldable pub reaches_to : ℕ → ℕ → List ℕ → Bool
-reaches_to last place [] = eqb place last
-reaches_to last place (end ∷ es) = leb place end && reaches_to last end es
+reaches_to last place [] = place == last
+reaches_to last place (end ∷ es) = nat_le place end && reaches_to last end es
 
 -- of a buffer of so many bytes, which the last end has to be, these are no ends of a stack: they are none, or more than
 -- eight, or one falls, or the last is another
 unfoldable pub ends_unfit : ℕ → List ℕ → Bool
-ends_unfit last es = eqb (length es) 0 || (ltb most_tapes (length es) || not (reaches_to last 0 es))
+ends_unfit last es = length es == 0 || (nat_lt most_tapes (length es) || not (reaches_to last 0 es))
 
 -- of tapes with these ends, the first of which begins at `place`, one has more bytes than a tape may have
 unfoldable pub some_too_long : ℕ → List ℕ → Bool
 some_too_long place [] = false
-some_too_long place (end ∷ es) = ltb most_bytes (end - place) || some_too_long end es
+some_too_long place (end ∷ es) = nat_lt most_bytes (end - place) || some_too_long end es
 
 -- what is refused of a stack, and of a workspace of `room` bytes, before a tape is read: 18, then 10, and then 11
 abbrev pub refuse_stack : {A : Type 0} → Tapes → ℕ → Outcome A → Outcome A
 refuse_stack tapes room o =
     refuse_if (ends_unfit (length tapes.tape_bytes) tapes.tape_ends) 18 0
     (refuse_if (some_too_long 0 tapes.tape_ends) 10 0
-    (refuse_if (ltb room least_room) 11 0 o))
+    (refuse_if (nat_lt room least_room) 11 0 o))
 
 -- ---- what the tapes mean
 

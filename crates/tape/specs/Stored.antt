@@ -1,17 +1,17 @@
 -- Promises: letters that lie in the workspace, read back. No reader of the deposit needs this file.
-use Rattle.std.specs.Prelude.{Bool, List, ℕ, ◌+◌, ◌*◌, ◌/◌, ◌%◌, eqb, get_or}
+use Rattle.std.specs.Prelude.{Bool, List, ℕ, ◌+◌, ◌*◌, ◌/◌, ◌%◌, slice_index, ◌==◌}
 use Rattle.tape.specs.declared.Style.{Style}
 use Rattle.tape.specs.Runs.{Letter}
 
 -- read back: byte j of letter number i, its code point and style, and the letter
 abbrev pub letter_byte : List ℕ → ℕ → ℕ → ℕ
-letter_byte ws i j = get_or ws (8 * i + j) 0
+letter_byte ws i j = slice_index ws (8 * i + j)
 
 abbrev pub code_at : List ℕ → ℕ → ℕ
 code_at ws i = letter_byte ws i 0 * 65536 + letter_byte ws i 1 * 256 + letter_byte ws i 2
 
 abbrev pub odd : ℕ → Bool
-odd n = eqb (n % 2) 1
+odd n = n % 2 == 1
 
 abbrev pub style_at : List ℕ → ℕ → Style
 style_at ws i =

@@ -1,20 +1,20 @@
 -- Styles: document 01, "Runs and lines", first paragraph. Definitions only.
 -- A style has the four bytes of a color, red, green, blue and alpha, and the marks bold and italic.
-use Rattle.std.specs.Prelude.{Bool, true, false, ◌&&◌, List, ℕ, eqb, get_or}
+use Rattle.std.specs.Prelude.{Bool, true, false, ◌&&◌, List, ℕ, slice_index, ◌==◌}
 use Rattle.std.specs.Bool.{beq}
 use Rattle.tape.specs.declared.Style.{Style}
 
 -- the style of the outer list: the default color and no mark
 abbrev pub default_with : List ℕ → Style
 default_with k =
-    record { red = get_or k 0 0; green = get_or k 1 0; blue = get_or k 2 0; alpha = get_or k 3 0; bold = false; italic = false }
+    record { red = slice_index k 0; green = slice_index k 1; blue = slice_index k 2; alpha = slice_index k 3; bold = false; italic = false }
 
 -- equal style: both marks and all four bytes
 unfoldable pub same_style : Style → Style → Bool
 same_style s t =
     beq s.bold t.bold
     && (beq s.italic t.italic
-    && (eqb s.red t.red && (eqb s.green t.green && (eqb s.blue t.blue && eqb s.alpha t.alpha))))
+    && (s.red == t.red && (s.green == t.green && (s.blue == t.blue && s.alpha == t.alpha))))
 
 -- what opens a list: a mark, a color's red, green and blue, or a plain group
 pub data Opener : Type 0 where

@@ -4,7 +4,7 @@
 -- number and a place.
 -- Between two commands the reading stands in a frame: the style in force; the styles of the lists around the open one,
 -- the nearest first, so that the depth is how many they are; and whether a voice's name is being read.
-use Rattle.std.specs.Prelude.{Bool, true, false, List, [], ◌∷◌, ◌++◌, ℕ, zero, suc, ◌+◌, ltb, length}
+use Rattle.std.specs.Prelude.{Bool, true, false, List, [], ◌∷◌, ◌++◌, ℕ, zero, suc, ◌+◌, length, nat_lt}
 use Rattle.tape.specs.declared.Style.{Style}
 use Rattle.tape.specs.Outcome.{Outcome, accepted, refused, refuse_if, unless, on_accepted}
 use Rattle.tape.specs.Style.{inside}
@@ -80,7 +80,7 @@ least_room = 65536
 
 -- what is refused of a tape and of a workspace of `room` bytes before the tape is read: 10, and then 11
 abbrev pub refuse_lengths : {A : Type 0} → List ℕ → ℕ → Outcome A → Outcome A
-refuse_lengths tape room o = refuse_if (ltb most_bytes (length tape)) 10 0 (refuse_if (ltb room least_room) 11 0 o)
+refuse_lengths tape room o = refuse_if (nat_lt most_bytes (length tape)) 10 0 (refuse_if (nat_lt room least_room) 11 0 o)
 
 -- what reading a tape into a workspace comes to: for Wrap; calls that draw look at the lengths in another place
 unfoldable pub read_call : Style → ℕ → List ℕ → Outcome (List Letter)

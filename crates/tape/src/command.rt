@@ -1,5 +1,5 @@
 // The tape's commands: what each is, and what is refused in one.
-ghost use Rattle.std.specs.Prelude.{◌≡◌, true, not, ◌&&◌, ◌||◌, ◌+◌, ◌≤◌, ◌<◌, length, eqb};
+ghost use Rattle.std.specs.Prelude.{◌≡◌, true, not, ◌&&◌, ◌||◌, ◌+◌, ◌≤◌, ◌<◌, length, ◌==◌};
 ghost use Rattle.tape.specs.Style.{inside};
 ghost use Rattle.tape.specs.Command.{deepest, most_letters, operand_width, code_point, is_letter, is_opener, is_scalar, added, fault_of, opener_of};
 ghost use Rattle.tape.specs.Reading.{most_added, byte_at, rest_at, no_scalar, short_letter};
@@ -75,7 +75,7 @@ fn letters_added(naming: bool, c: u8) -> usize
 
 // A command that no name holds.
 fn is_strange(naming: bool, c: u8) -> bool
-    ensures { result ≡ (naming && not (eqb c 0 || is_letter c)) }
+    ensures { result ≡ (naming && not (c == 0 || is_letter c)) }
 {
     if naming {
         if c == 0x00 {
@@ -88,7 +88,7 @@ fn is_strange(naming: bool, c: u8) -> bool
 
 // An opener whose list would lie too deep.
 fn is_too_deep(c: u8, depth: usize) -> bool
-    ensures { result ≡ (is_opener c && eqb depth deepest) }
+    ensures { result ≡ (is_opener c && depth == deepest) }
 {
     if is_opener(c) {
         return depth == DEEPEST;
@@ -109,14 +109,14 @@ fn is_no_scalar(tape: &[u8], at: usize) -> bool
 
 // In the outer list, and in no name.
 pub fn is_outer(naming: bool, depth: usize) -> bool
-    ensures { result ≡ (not naming && eqb depth 0) }
+    ensures { result ≡ (not naming && depth == 0) }
 {
     if naming { false } else { depth == 0 }
 }
 
 // An end that no list and no name has.
 fn is_stray_end(c: u8, naming: bool, depth: usize) -> bool
-    ensures { result ≡ (eqb c 0 && (not naming && eqb depth 0)) }
+    ensures { result ≡ (c == 0 && (not naming && depth == 0)) }
 {
     if c == 0x00 {
         return is_outer(naming, depth);

@@ -1,5 +1,5 @@
 -- Promises: how lines lie in the workspace, behind the letters. No reader of the deposit needs this file.
-use Rattle.std.specs.Prelude.{◌≡◌, ℕ, ◌+◌, ◌*◌, ◌≤◌, ◌<◌, length, get_or, take}
+use Rattle.std.specs.Prelude.{◌≡◌, ℕ, ◌+◌, ◌*◌, ◌≤◌, ◌<◌, length, take, slice_index}
 use mathlib.Core.List.{List, [], ◌∷◌, map, flatten}
 use Rattle.std.proofs.Math.Seq.{slice}
 use Rattle.tape.specs.Command.{most_letters}
@@ -31,7 +31,7 @@ most_lines = most_letters
 
 -- read back: a number in two bytes
 abbrev pub two_at : List ℕ → ℕ → ℕ
-two_at ws at = get_or ws at 0 * 256 + get_or ws (at + 1) 0
+two_at ws at = slice_index ws at * 256 + slice_index ws (at + 1)
 
 -- the number of the k-th letter on lines; the letters and the columns of line i; the letters with ink on the lines up to
 -- this one

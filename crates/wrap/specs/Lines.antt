@@ -8,7 +8,7 @@
 --   `put_token`            tokens are put on lines, by the rules 1 and 2, and then 3 and 4, which stand before them
 --   `trim_trailing_space`   spaces at the end of each line go
 --   `is_empty_line`         letterless lines at the end go
-use Rattle.std.specs.Prelude.{Bool, true, false, ◌&&◌, not, cond, List, [], ◌∷◌, ◌++◌, map, ℕ, zero, suc, ◌+◌, ◌-◌, eqb, leb, ltb, length, get_or}
+use Rattle.std.specs.Prelude.{Bool, true, false, ◌&&◌, not, cond, List, [], ◌∷◌, ◌++◌, map, ℕ, zero, suc, ◌+◌, ◌-◌, length, nat_le, nat_lt, slice_index_or, ◌==◌}
 use Rattle.std.specs.Bool.{beq}
 use Rattle.tape.specs.Runs.{Letter}
 use Rattle.wrap.specs.Columns.{is_break, is_space, is_blank, columns_of}
@@ -48,7 +48,7 @@ no_letter =
 -- The caption's letters are `ls` from here on, and k, m are numbers of letters.
 module _ (ls : List Letter) where
   abbrev pub letter_of : ℕ → Letter
-  letter_of k = get_or ls k no_letter
+  letter_of k = slice_index_or ls k no_letter
 
   abbrev pub code_of : ℕ → ℕ
   code_of k = (letter_of k).code
@@ -121,13 +121,13 @@ add f t = record { closed = f.closed; line = f.line ++ t }
 
 module _ (ls : List Letter) (L : ℕ) where
   abbrev pub has_columns : Filling → Bool
-  has_columns f = ltb 0 (visible_cols ls f.line)
+  has_columns f = nat_lt 0 (visible_cols ls f.line)
 
   -- one chunk: before it the line is closed if it has columns; after it, if it has at least L
   abbrev pub put_chunk : Filling → Line → Filling
   put_chunk f t =
       let g = add (close_if (has_columns f) f) t in
-      close_if (leb L (visible_cols ls g.line)) g
+      close_if (nat_le L (visible_cols ls g.line)) g
 
   unfoldable pub put_chunks : Filling → List Line → Filling
   put_chunks f [] = f
@@ -135,17 +135,17 @@ module _ (ls : List Letter) (L : ℕ) where
 
   -- rule 3: a token of more than L columns is put chunk by chunk; rule 4: any other is added
   unfoldable pub add_or_break : Filling → Line → Filling
-  add_or_break f t = cond (ltb L (visible_cols ls t)) (put_chunks f (hard_break L t)) (add f t)
+  add_or_break f t = cond (nat_lt L (visible_cols ls t)) (put_chunks f (hard_break L t)) (add f t)
 
   -- the line has columns, and with the token it would pass L
   abbrev pub passes : Filling → Line → Bool
-  passes f t = has_columns f && ltb L (visible_cols ls f.line + visible_cols ls t)
+  passes f t = has_columns f && nat_lt L (visible_cols ls f.line + visible_cols ls t)
 
   -- rule 1: a token of 0 columns is dropped, and a space token while the line has 0 columns
   -- rule 2: a token that would pass L closes the line, and a space token is then dropped
   unfoldable pub put_token : Filling → Line → Filling
   put_token f t =
-      cond (eqb (visible_cols ls t) 0) f
+      cond (visible_cols ls t == 0) f
       (cond (is_space_token ls t && not (has_columns f)) f
       (cond (passes f t) (cond (is_space_token ls t) (close f) (add_or_break (close f) t))
       (add_or_break f t)))

@@ -1,5 +1,5 @@
 -- The call Wrap: document 01, "Carried over, and added". Definitions only.
-use Rattle.std.specs.Prelude.{◌||◌, ℕ, ◌/◌, ◌%◌, ltb, length, replicate}
+use Rattle.std.specs.Prelude.{◌||◌, ℕ, ◌/◌, ◌%◌, length, replicate, nat_lt}
 use mathlib.Core.List.{List, [], ◌∷◌, ◌++◌, flatten}
 use Rattle.tape.specs.Outcome.{Outcome, refuse_if, on_accepted}
 use Rattle.tape.specs.Style.{default_with}
@@ -25,7 +25,7 @@ most_columns = 4096
 -- in Draw, and a list in the default color the other way round.
 unfoldable pub wrap_call : ℕ → ℕ → List ℕ → Outcome Caption
 wrap_call L room tape =
-    refuse_if (ltb L 1 || ltb most_columns L) 8 0 (on_accepted (caption_of L) (read_call (default_with (replicate 4 0xff)) room tape))
+    refuse_if (nat_lt L 1 || nat_lt most_columns L) 8 0 (on_accepted (caption_of L) (read_call (default_with (replicate 4 0xff)) room tape))
 
 -- ---- the bytes that the workspace begins with after an accepted call
 

@@ -10,7 +10,7 @@ pub mod laid;
 mod line;
 mod token;
 
-ghost use Rattle.std.specs.Prelude.{◌≡◌, List, ◌+◌, ◌*◌, ◌≤◌, ◌<◌, eqb, length};
+ghost use Rattle.std.specs.Prelude.{◌≡◌, List, ◌+◌, ◌*◌, ◌≤◌, ◌<◌, length, ◌==◌};
 ghost use Rattle.std.proofs.lemmas.List.Edits.{sets};
 ghost use Rattle.std.proofs.Math.Seq.{slice};
 ghost use Rattle.tape.specs.Command.{most_letters};
@@ -35,7 +35,7 @@ pub struct Lines {
 
 fn is_empty_line(ws: &[u8], line: usize) -> bool
     requires { table_from + 4 * line + 4 ≤ length ws.now }
-    ensures { result ≡ eqb (letters_on ws.now line) 0 }
+    ensures { result ≡ (letters_on ws.now line == 0) }
 {
     laid::letters_on(ws, line) == 0
 }

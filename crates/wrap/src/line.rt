@@ -1,5 +1,5 @@
 // The line being filled: where it stands in the workspace, closing it and adding letters to it.
-ghost use Rattle.std.specs.Prelude.{◌≡◌, true, not, ◌&&◌, List, ◌+◌, ◌*◌, ◌-◌, ◌≤◌, ◌<◌, ltb, length};
+ghost use Rattle.std.specs.Prelude.{◌≡◌, true, not, ◌&&◌, List, ◌+◌, ◌*◌, ◌-◌, ◌≤◌, ◌<◌, length, nat_lt, ◌==◌};
 ghost use Rattle.std.proofs.lemmas.List.Edits.{sets};
 ghost use Rattle.tape.specs.Command.{most_letters};
 ghost use Rattle.tape.specs.Runs.{Letter};
@@ -118,7 +118,7 @@ impl Cursor {
 
     // Whether a token is dropped, being a space token before any columns.
     pub fn drops(self, space: bool) -> bool
-        ensures { result ≡ (space && not (ltb 0 self.columns)) }
+        ensures { result ≡ (space && not (nat_lt 0 self.columns)) }
     {
         if space { self.columns == 0 } else { false }
     }
@@ -126,7 +126,7 @@ impl Cursor {
     // Whether the line has columns, and with so many more would pass the limit.
     pub fn passes(self, columns: usize, limit: usize) -> bool
         requires { self.columns + columns ≤ 2 * most_columns }
-        ensures { result ≡ (ltb 0 self.columns && ltb limit (self.columns + columns)) }
+        ensures { result ≡ (nat_lt 0 self.columns && nat_lt limit (self.columns + columns)) }
     {
         if 0 < self.columns {
             return limit < self.columns + columns;

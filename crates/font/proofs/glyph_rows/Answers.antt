@@ -1,5 +1,5 @@
 -- `glyph_rows` meets its contract: after r turns the first r rows are those of the table.
-use Rattle.std.proofs.Common.{◌≡◌, refl, arith, length-set, le-ltb, lt-ltb}
+use Rattle.std.proofs.Common.{◌≡◌, refl, arith, length-set, lt-ltb}
 use Rattle.font.specs.Font.{tabulate}
 use Rattle.font.proofs.ArrayFill.{fill_step, fill_end}
 use Rattle.font.proofs.glyph_rows.Invariants.{row_at}
