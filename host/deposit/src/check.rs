@@ -48,7 +48,7 @@ pub fn names(parts: &[&Part], notation: &str) -> Result<(), String> {
 fn explained(used: &Use, earlier: &[&Part], notation: &str) -> Result<(), String> {
     match used {
         Use::Library(names) => known(names, |name| {
-            signs::has_word(notation, name.trim_matches('_'))
+            signs::has_word(notation, name.trim_matches('◌'))
         }),
         Use::Part(from, names) => {
             let part = earlier.iter().find(|part| part.source.file == from);

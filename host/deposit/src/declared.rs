@@ -19,9 +19,11 @@ pub fn show(root: &Path, of: &str, path: &[String]) -> Result<String, String> {
         .iter()
         .position(|line| opened.iter().any(|opened| line == opened))
         .ok_or(format!("{file} declares no {name}"))?;
+    // What the compiler derives for it stands between.
     let comment = lines[..at]
         .iter()
         .rev()
+        .skip_while(|line| line.starts_with("#["))
         .take_while(|line| line.starts_with("// "));
     let mut shown: Vec<String> = comment.map(|line| line.replacen("//", "--", 1)).collect();
     shown.push(String::new());

@@ -30,12 +30,12 @@ pub fn check(text: &str, notation: &str) -> Result<(), String> {
     }
 }
 
-/// Whether a text has a word: neither letters nor digits stand beside it. Signs are found anywhere.
+/// Whether a text has a word: no letter, no digit and no _ stands beside it. Signs are found anywhere.
 pub fn has_word(text: &str, word: &str) -> bool {
     if !word.starts_with(char::is_alphanumeric) {
         return text.contains(word);
     }
-    let joins = |sign: Option<char>| sign.is_some_and(|sign| sign.is_alphanumeric());
+    let joins = |sign: Option<char>| sign.is_some_and(|sign| sign.is_alphanumeric() || sign == '_');
     text.match_indices(word).any(|(at, _)| {
         !joins(text[..at].chars().next_back()) && !joins(text[at + word.len()..].chars().next())
     })

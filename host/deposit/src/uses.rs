@@ -1,5 +1,8 @@
 //! Names that a part takes from elsewhere.
 
+/// The library whose words the notation explains.
+const LIBRARY: &str = "std";
+
 /// One line of them.
 pub enum Use {
     Library(Vec<String>),
@@ -20,11 +23,13 @@ pub fn parse(line: &str) -> Result<Use, String> {
             (path, Vec::new())
         }
     };
-    let ours = path.strip_prefix("Rattle·");
+    let ours = path.strip_prefix("Rattle.");
     let Some((of, from)) = ours.and_then(|path| path.split_once(".specs.")) else {
         return Ok(Use::Library(names));
     };
-    let of = of.split('·').next().unwrap_or(of);
+    if of == LIBRARY {
+        return Ok(Use::Library(names));
+    }
     Ok(match from.strip_prefix("declared.") {
         Some(path) => Use::Declared(of.to_owned(), words(path, ".")),
         None => Use::Part(from.to_owned(), names),

@@ -259,7 +259,8 @@ fn counted(name: &str) -> Counted {
         let code = code.collect::<Vec<&str>>().join("\n");
         for function in code.split("fn ").skip(1) {
             counts[0] += 1;
-            counts[1] += usize::from(!function.contains("ensures {"));
+            let mut words = function.split_whitespace();
+            counts[1] += usize::from(!words.any(|word| word == "ensures"));
         }
     }
     (name.to_string(), counts)
@@ -284,7 +285,7 @@ fn the_functions_without_an_ensures() {
     }
     let crates = read("crates.txt");
     let names = crates.lines().filter(|line| !line.starts_with('#'));
-    let names = names.filter_map(|line| line.split(':').next());
+    let names = names.filter_map(|line| line.split([':', ' ']).next());
     let others = names.filter(|name| !LIBRARIES.contains(name));
     let mut due: Vec<Counted> = others.map(counted).collect();
     let mut told = told(&read("docs/TRUSTED.md"));

@@ -122,17 +122,25 @@ faults! {
         "    pub italic: bool," => "    pub oblique: bool,",
         ends_with("oblique : Bool");
 
+    another_comment_of_a_struct: "crates/tape/src/lib.rt",
+        "// What a letter is drawn in." => "// What a letter looks like.",
+        ends_with("-- What a letter looks like.");
+
     a_sign_of_the_library_that_the_notation_leaves_out: "deposit/notation.txt",
-        "bitOr a b" => "either a b",
-        contains("takes the name bitOr");
+        "bit_or a b" => "either a b",
+        contains("takes the name bit_or");
+
+    a_name_that_stands_in_another_one_alone: "deposit/notation.txt",
+        "bit_or a b" => "bit_or_of a b",
+        contains("takes the name bit_or,");
 
     a_name_that_no_earlier_part_has: "crates/font/specs/Slant.antt",
         "cell_h, bearing_y, tabulate}" => "cell_h, bearing_y, tabulate, slope}",
         contains("takes the name slope");
 
     a_name_from_a_part_that_comes_later: "crates/tape/specs/Outcome.antt",
-        "use Prim.Native.Nat.{ℕ, zero, suc}\n" =>
-            "use Prim.Native.Nat.{ℕ, zero, suc}\nuse Rattle·tape·specs.specs.Runs.{Run}\n",
+        "use Rattle.std.specs.Prelude." =>
+            "use Rattle.tape.specs.Runs.{Run}\nuse Rattle.std.specs.Prelude.",
         contains("Runs, which does not stand before it");
 
     a_comment_that_leads_out_of_the_text: "crates/font/specs/Blend.antt",
