@@ -16,7 +16,7 @@ pub fn link(libraries: &[&str]) -> PathBuf {
             println!("cargo::rustc-link-lib=static={name}");
         } else {
             println!(
-                "cargo::error=the proved library is not at {}: run `rt staticlib {name}` in the repository first",
+                "cargo::error=the proved library is not at {}: run `tools/staticlib {name}` in the repository first",
                 archive.display()
             );
         }
@@ -25,7 +25,7 @@ pub fn link(libraries: &[&str]) -> PathBuf {
 }
 
 /// The folder that CAPTIONS_STATICLIB names (counted from the crate's folder, where it is no absolute
-/// path), or else the one where `rt staticlib` writes.
+/// path), or else the one where `tools/staticlib` puts them.
 fn folder() -> PathBuf {
     let here = PathBuf::from(env::var_os("CARGO_MANIFEST_DIR").unwrap_or_default());
     match env::var_os("CAPTIONS_STATICLIB") {

@@ -5,13 +5,13 @@ use std::io::Write;
 use std::path::Path;
 use std::process::{Command, Stdio};
 
-const PROGRAM: &str = concat!(env!("CARGO_MANIFEST_DIR"), "/../../target/bin/lines");
+const PROGRAM: &str = concat!(env!("CARGO_MANIFEST_DIR"), "/../../crates/lines/out/lines");
 
 /// What it writes of a tape.
 fn lines(tape: &[u8]) -> String {
     assert!(
         Path::new(PROGRAM).is_file(),
-        "the proved program is not at {PROGRAM}: run `rt check lines` in the repository first"
+        "the proved program is not at {PROGRAM}: run `rt run` in crates/lines first"
     );
     let mut child = Command::new(PROGRAM)
         .stdin(Stdio::piped())
