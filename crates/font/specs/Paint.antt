@@ -45,8 +45,8 @@ stroke_row rows offsets k x base y row =
     let r = origin + y - top in
     cond (nat_le top (origin + y) && nat_lt r cell_h) (paint_row k (slice_index rows r) (x + slice_index offsets r - unmoved) row) row
 
--- Bytes l that begin with m rows of row_size bytes, each changed by f, which is given the row's number too: the first is
--- the picture's row y, the next y + 1, and so on. The bytes after them stay.
+-- Bytes l that begin with m rows of row_size bytes, each changed by f, which is given the row's number too: the first
+-- is the picture's row y, the next y + 1, and so on. The bytes after them stay.
 unfoldable pub each_row : (ℕ → List ℕ → List ℕ) → ℕ → ℕ → ℕ → List ℕ → List ℕ
 each_row f row_size zero y l = l
 each_row f row_size (suc m) y l = f y (take row_size l) ++ each_row f row_size m (suc y) (drop row_size l)

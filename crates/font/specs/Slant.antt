@@ -16,10 +16,10 @@ nearest n d = (2 * n + d) / (2 * d)
 abbrev pub unmoved : ℕ
 unmoved = 8
 
--- The rule: row r moves by (bearing_y − r) · cell_w · slant / (8 · cell_h) columns, rounded, halves away from zero. That
--- is the first quotient less the second, of which one is always 0: rows above the base line move to the right, those
--- below it to the left, and its own row stays. At slant 2 row 0 moves by 2 columns, rows 1 to 8 by 1, and the others
--- stay; at slant 8 row 0 moves by 6, and rows 13, 14 and 15 by −1, −1 and −2.
+-- The rule: row r moves by (bearing_y − r) · cell_w · slant / (8 · cell_h) columns, rounded, halves away from zero.
+-- That is the first quotient less the second, of which one is always 0: rows above the base line move to the right,
+-- those below it to the left, and its own row stays. At slant 2 row 0 moves by 2 columns, rows 1 to 8 by 1, and the
+-- others stay; at slant 8 row 0 moves by 6, and rows 13, 14 and 15 by −1, −1 and −2.
 abbrev pub row_offset : ℕ → ℕ → ℕ
 row_offset slant r =
     unmoved + nearest ((bearing_y - r) * cell_w * slant) (8 * cell_h) - nearest ((r - bearing_y) * cell_w * slant) (8 * cell_h)

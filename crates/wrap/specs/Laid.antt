@@ -33,8 +33,8 @@ most_lines = most_letters
 abbrev pub two_at : List ℕ → ℕ → ℕ
 two_at ws at = slice_index ws at * 256 + slice_index ws (at + 1)
 
--- the number of the k-th letter on lines; the letters and the columns of line i; the letters with ink on the lines up to
--- this one
+-- the number of the k-th letter on lines; the letters and the columns of line i; the letters with ink on the lines up
+-- to this one
 abbrev pub number_at : List ℕ → ℕ → ℕ
 number_at ws k = two_at ws (numbers_from + 2 * k)
 
