@@ -5,7 +5,7 @@ use mathlib.Core.List.{flatten}
 use lib.Bits.{or_step}
 use native.Mathlib.Nat.{pow-zero}
 use borrow.Author.Tests.{lt-leb}
-use Rattle.font.specs.Signs.{Numbers, Tests, Lists}
+use Rattle.font.specs.Signs.{Numbers, Tests, NumberLists, Lists}
 
 pub numbers : Numbers
 numbers = record {
@@ -34,13 +34,13 @@ differ false = refl
 
 pub tests : Tests
 tests = record {
-  leb_holds = le-leb;
-  leb_fails = lt-leb;
-  ltb_holds = lt-ltb;
-  ltb_fails = le-ltb;
-  eqb_holds = λ a. eq-eqb a a refl;
-  eqb_below = λ a b h. ne_eqb a b (λ e. omega arith);
-  eqb_above = λ a b h. ne_eqb a b (λ e. omega arith);
+  nat_le_holds = le-leb;
+  nat_le_fails = lt-leb;
+  nat_lt_holds = lt-ltb;
+  nat_lt_fails = le-ltb;
+  equal_holds = λ a. eq-eqb a a refl;
+  equal_below = λ a b h. ne_eqb a b (λ e. omega arith);
+  equal_above = λ a b h. ne_eqb a b (λ e. omega arith);
   not_true = refl;
   not_false = refl;
   and_true = λ t. refl;
@@ -50,6 +50,9 @@ tests = record {
   agree = agree;
   differ = differ;
 }
+
+pub number_lists : NumberLists
+number_lists = record { index_is = λ l i. refl }
 
 module _ {A : Type 0} where
   take_short : (n : ℕ) → take {A = A} n [] ≡ []
@@ -81,9 +84,9 @@ lists = record {
   drop_none = λ l. refl;
   drop_short = drop_short;
   drop_some = λ n x l. refl;
-  get_or_short = λ n d. refl;
-  get_or_first = λ x d l. refl;
-  get_or_later = λ n x d l. refl;
+  index_short = λ n d. refl;
+  index_first = λ x d l. refl;
+  index_later = λ n x d l. refl;
   set_short = λ n v. refl;
   set_first = λ x v l. refl;
   set_later = λ n x v l. refl;

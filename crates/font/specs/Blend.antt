@@ -1,5 +1,5 @@
 -- Blending a color into a pixel: document 01, "Blend, alpha a > 0 ..", and document 02, S-8. Definitions only.
-use Rattle.std.specs.Prelude.{ℕ, ◌+◌, ◌-◌, ◌*◌, ◌/◌, cond, List, ◌==◌, slice_index, slice_index_or, slice_set}
+use Rattle.std.specs.Prelude.{ℕ, ◌+◌, ◌-◌, ◌*◌, ◌/◌, cond, List, ◌==◌, slice_index, slice_set}
 
 -- the color byte s with alpha a over the picture's byte d
 unfoldable pub blend_byte : ℕ → ℕ → ℕ → ℕ
@@ -14,7 +14,7 @@ blend_alpha a d = a + (d * (255 - a) + 127) / 255
 -- blue, alpha
 unfoldable pub blend_over : List ℕ → ℕ → List ℕ → List ℕ
 blend_over k i l =
-    let a = slice_index_or k 3 0 in
+    let a = slice_index k 3 in
     slice_set
     (slice_set
     (slice_set

@@ -1,5 +1,5 @@
 -- WHAT THE SIGNS OF THE NOTATION MEAN, as equations that hold of them. Definitions only.
-use Rattle.std.specs.Prelude.{◌≡◌, ℕ, suc, ◌+◌, ◌-◌, ◌*◌, ◌/◌, ◌%◌, ◌^◌, ◌<◌, ◌≤◌, min, max, Bool, true, false, cond, not, ◌&&◌, ◌||◌, List, [], ◌∷◌, ◌++◌, map, length, take, drop, replicate, ◌==◌, bit_or, nat_le, nat_lt, slice_index_or, slice_set}
+use Rattle.std.specs.Prelude.{◌≡◌, ℕ, suc, ◌+◌, ◌-◌, ◌*◌, ◌/◌, ◌%◌, ◌^◌, ◌<◌, ◌≤◌, min, max, Bool, true, false, cond, not, ◌&&◌, ◌||◌, List, [], ◌∷◌, ◌++◌, map, length, take, drop, replicate, ◌==◌, bit_or, nat_le, nat_lt, slice_index, slice_index_or, slice_set}
 use Rattle.std.specs.Bool.{beq}
 use mathlib.Core.List.{flatten}
 use Rattle.std.proofs.lemmas.List.Edits.{sets}
@@ -25,13 +25,13 @@ pub record Numbers : Type 0 where
 
 -- tests
 pub record Tests : Type 0 where
-  pub leb_holds : (a b : ℕ) → a ≤ b → nat_le a b ≡ true
-  pub leb_fails : (a b : ℕ) → b < a → nat_le a b ≡ false
-  pub ltb_holds : (a b : ℕ) → a < b → nat_lt a b ≡ true
-  pub ltb_fails : (a b : ℕ) → b ≤ a → nat_lt a b ≡ false
-  pub eqb_holds : (a : ℕ) → (a == a) ≡ true
-  pub eqb_below : (a b : ℕ) → a < b → (a == b) ≡ false
-  pub eqb_above : (a b : ℕ) → b < a → (a == b) ≡ false
+  pub nat_le_holds : (a b : ℕ) → a ≤ b → nat_le a b ≡ true
+  pub nat_le_fails : (a b : ℕ) → b < a → nat_le a b ≡ false
+  pub nat_lt_holds : (a b : ℕ) → a < b → nat_lt a b ≡ true
+  pub nat_lt_fails : (a b : ℕ) → b ≤ a → nat_lt a b ≡ false
+  pub equal_holds : (a : ℕ) → (a == a) ≡ true
+  pub equal_below : (a b : ℕ) → a < b → (a == b) ≡ false
+  pub equal_above : (a b : ℕ) → b < a → (a == b) ≡ false
   pub not_true : not true ≡ false
   pub not_false : not false ≡ true
   pub and_true : (t : Bool) → (true && t) ≡ t
@@ -40,6 +40,10 @@ pub record Tests : Type 0 where
   pub or_false : (t : Bool) → (false || t) ≡ t
   pub agree : (t : Bool) → beq t t ≡ true
   pub differ : (t : Bool) → beq t (not t) ≡ false
+
+-- lists of numbers: 0 stands where one is too short
+pub record NumberLists : Type 0 where
+  pub index_is : (l : List ℕ) (i : ℕ) → slice_index l i ≡ slice_index_or l i 0
 
 -- choosing by a test, and lists, of things of any kind
 pub record Lists (A B : Type 0) : Type 0 where
@@ -55,16 +59,17 @@ pub record Lists (A B : Type 0) : Type 0 where
   pub flatten_some : (l : List A) (ls : List (List A)) → flatten (l ∷ ls) ≡ l ++ flatten ls
   pub replicate_none : (x : A) → replicate 0 x ≡ []
   pub replicate_some : (n : ℕ) (x : A) → replicate (suc n) x ≡ x ∷ replicate n x
-  -- of a list that is too short, take gives all, drop nothing, get_or its last argument, and set changes nothing
+  -- of a list that is too short, take gives all, drop nothing, slice_index_or its last argument, and slice_set changes
+  -- nothing
   pub take_none : (l : List A) → take 0 l ≡ []
   pub take_short : (n : ℕ) → take {A = A} n [] ≡ []
   pub take_some : (n : ℕ) (x : A) (l : List A) → take (suc n) (x ∷ l) ≡ x ∷ take n l
   pub drop_none : (l : List A) → drop 0 l ≡ l
   pub drop_short : (n : ℕ) → drop {A = A} n [] ≡ []
   pub drop_some : (n : ℕ) (x : A) (l : List A) → drop (suc n) (x ∷ l) ≡ drop n l
-  pub get_or_short : (n : ℕ) (d : A) → slice_index_or [] n d ≡ d
-  pub get_or_first : (x d : A) (l : List A) → slice_index_or (x ∷ l) 0 d ≡ x
-  pub get_or_later : (n : ℕ) (x d : A) (l : List A) → slice_index_or (x ∷ l) (suc n) d ≡ slice_index_or l n d
+  pub index_short : (n : ℕ) (d : A) → slice_index_or [] n d ≡ d
+  pub index_first : (x d : A) (l : List A) → slice_index_or (x ∷ l) 0 d ≡ x
+  pub index_later : (n : ℕ) (x d : A) (l : List A) → slice_index_or (x ∷ l) (suc n) d ≡ slice_index_or l n d
   pub set_short : (n : ℕ) (v : A) → slice_set [] n v ≡ []
   pub set_first : (x v : A) (l : List A) → slice_set (x ∷ l) 0 v ≡ v ∷ l
   pub set_later : (n : ℕ) (x v : A) (l : List A) → slice_set (x ∷ l) (suc n) v ≡ x ∷ slice_set l n v

@@ -22,7 +22,7 @@ use Rattle.job.specs.declared.Stripes.{Stripes}
 use Rattle.job.specs.declared.JobRecord.{JobRecord}
 use Rattle.job.specs.Stripes.{Division, most_stripes, end_row, first_row, stripe_of, has_stripe, rises_to, stripes_fault, division_of, stripes_with, new_record, counter_of, with_counter, counters_unsound}
 use Rattle.job.specs.Work.{on_stripe}
-use Rattle.job.proofs.Rising.{first_under_end, end_within, row_there, row_of, row_lies}
+use Rattle.job.proofs.Rising.{first_under_end, end_within, row_there, row_of_lem, row_lies}
 
 -- ---- what is refused of a division
 
@@ -220,7 +220,7 @@ module _ (s : Settings) (d : Division) (k : ℕ) (fit : stripes_fault s d ≡ 0)
   stripe_fits = mul-le-mul_right {m = end_row d k} {n = s.height} (row_bytes s) end_low
 
   within : (y : ℕ) → first_row d k ≤ y → y < end_row d k → stripe_of d y ≡ k
-  within y l u = row_of s.height 0 d k y (stripes_rise s d fit) number l u
+  within y l u = row_of_lem s.height 0 d k y (stripes_rise s d fit) number l u
 
   -- a row of the stripe lies between its first and its end
   lies : (y : ℕ) → stripe_of d y ≡ k → (first_row d k ≤ y) × (y < end_row d k)

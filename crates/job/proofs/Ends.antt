@@ -21,7 +21,7 @@ use Rattle.job.specs.declared.JobRecord.{JobRecord}
 use Rattle.job.specs.Stripes.{Division, most_stripes, end_row, first_row, stripe_of, has_stripe, rises_to, stripes_fault, equal_ends, division_of, with_counter, counters_unsound}
 use Rattle.job.specs.Work.{open_call, on_stripe, stripe_call, work_call}
 use Rattle.job.specs.Ends.{Rising, RefusedEnds, StripeRows, SameUsed, UnreadEnds, EqualStripes, StripesByEnds}
-use Rattle.job.proofs.Rising.{first_from, first_under_end, last_is, row_of, row_lies}
+use Rattle.job.proofs.Rising.{first_from, first_under_end, last_is, row_of_lem, row_lies}
 use Rattle.job.proofs.Division.{entry_at, used_length, fault_by, stripes_few, stripes_rise, stripe_there}
 
 -- ---- the rule
@@ -90,7 +90,7 @@ unfolding has_stripe
 stripe_rows_lem s d fit =
     record {
       covered = stripe_there s d fit;
-      between = λ k y there from to. row_of s.height 0 d k y (stripes_rise s d fit) (ltb-true k (length d) there) from to;
+      between = λ k y there from to. row_of_lem s.height 0 d k y (stripes_rise s d fit) (ltb-true k (length d) there) from to;
       found = λ y l. row_lies 0 d y (omega arith) (ltb-true (stripe_of d y) (length d) (stripe_there s d fit y l));
     }
 
@@ -205,7 +205,7 @@ module _ (h height : ℕ) (pos : 0 < h) where
       let m : suc (0 + k) * h ≡ suc k * h = ap (λ (i : ℕ). suc i * h) (zero-add k) in
       let next = suc-mul k h in
       let first = first_at k there in
-      row_of height 0 (ends 0 number) k y rise (rw ends_length there) (omega arith) (omega arith)
+      row_of_lem height 0 (ends 0 number) k y rise (rw ends_length there) (omega arith) (omega arith)
 
 -- ends that rise are refused where they are too many
 fault_rising : (s : Settings) (d : Division) → rises_to s.height 0 d ≡ true → stripes_fault s d ≡ cond (ltb most_stripes (length d)) 13 0

@@ -76,15 +76,15 @@ module _ (height : ℕ) where
       by false t next = omega (arith, next (ltb-false y end t))
 
   -- a row between the first and the end of a stripe is of that stripe
-  pub row_of : (row : ℕ) (d : Division) (k y : ℕ) → rises_to height row d ≡ true → k < length d → first_from row d k ≤ y → y < end_row d k
+  pub row_of_lem : (row : ℕ) (d : Division) (k y : ℕ) → rises_to height row d ≡ true → k < length d → first_from row d k ≤ y → y < end_row d k
       → stripe_of d y ≡ k
   unfolding stripe_of
-  row_of row [] k y e l from to = absurd (omega arith)
-  row_of row (end ∷ d) zero y e l from to = rw (lt-ltb y end to)
-  row_of row (end ∷ d) (suc k) y e l from to =
+  row_of_lem row [] k y e l from to = absurd (omega arith)
+  row_of_lem row (end ∷ d) zero y e l from to = rw (lt-ltb y end to)
+  row_of_lem row (end ∷ d) (suc k) y e l from to =
       let r = (rises_first row end d e).1 in
       let past = first_past end d k r (omega arith) in
-      rw (le-ltb y end (omega arith)) (ap suc (row_of end d k y r (omega arith) from to))
+      rw (le-ltb y end (omega arith)) (ap suc (row_of_lem end d k y r (omega arith) from to))
 
 -- and a row that is of a stripe lies there
 pub row_lies : (row : ℕ) (d : Division) (y : ℕ) → row ≤ y → stripe_of d y < length d

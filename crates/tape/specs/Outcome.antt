@@ -1,5 +1,5 @@
 -- What reading or a call comes to: document 01, "Who is stopped, and by what". Definitions only.
-use Rattle.std.specs.Prelude.{Bool, true, false, ℕ, zero, suc, ◌+◌}
+use Rattle.std.specs.Prelude.{Bool, true, false, ℕ, zero, suc}
 
 -- something, or a refusal: its number and its place
 pub data Outcome (A : Type 0) : Type 0 where
@@ -26,8 +26,3 @@ module _ {A : Type 0} where
   abbrev pub and_then : {B : Type 0} → (A → Outcome B) → Outcome A → Outcome B
   and_then f (accepted a) = f a
   and_then f (refused number place) = refused number place
-
-  -- the same with a refusal's place so many bytes further on
-  abbrev pub further : ℕ → Outcome A → Outcome A
-  further bytes (accepted a) = accepted a
-  further bytes (refused number place) = refused number (bytes + place)

@@ -4,7 +4,7 @@
 -- own start, and ends where it ends.
 use Rattle.std.specs.Prelude.{Bool, false, not, ◌&&◌, ◌||◌, List, [], ◌∷◌, ℕ, ◌+◌, ◌-◌, length, take, drop, nat_le, nat_lt, ◌==◌}
 use Rattle.tape.specs.declared.Style.{Style}
-use Rattle.tape.specs.Outcome.{Outcome, accepted, refuse_if, on_accepted, and_then, further}
+use Rattle.tape.specs.Outcome.{Outcome, accepted, refused, refuse_if, on_accepted, and_then}
 use Rattle.tape.specs.Runs.{Letter}
 use Rattle.tape.specs.Tape.{tape_letters, most_bytes, least_room}
 
@@ -54,6 +54,11 @@ refuse_stack tapes room o =
     (refuse_if (nat_lt room least_room) 11 0 o))
 
 -- ---- what the tapes mean
+
+-- an outcome with a refusal's place so many bytes further on
+abbrev pub further : {A : Type 0} → ℕ → Outcome A → Outcome A
+further bytes (accepted a) = accepted a
+further bytes (refused number place) = refused number (bytes + place)
 
 -- The letters of each tape, with s the style of its outer list; or the first fault of the first tape that has one. So
 -- many bytes stand before the tapes: the fault's place is counted from the buffer's start.
