@@ -20,7 +20,7 @@ use Rattle.wrap.specs.Filled.{done, cursor_of, closed, added, Held, Sane}
 use Rattle.wrap.proofs.Lists.{flatten_append, last_front, last_none, last_some}
 use Rattle.wrap.proofs.ColumnCounts.{cols_append}
 use Rattle.wrap.proofs.InkCounts.{ink_append, trim_ink, totals_snoc}
-use Rattle.wrap.proofs.TableBytes.{twos_append, length_twos, take_twos, get_d_sets, slice_before, slice_after, slice_grow, slice_less, table_snoc}
+use Rattle.wrap.proofs.TableBytes.{twos_append, length_twos, take_twos, get_or_sets, slice_before, slice_after, slice_grow, slice_less, table_snoc}
 
 module _ (ls : List Letter) where
   -- stores behind the letters
@@ -28,7 +28,7 @@ module _ (ls : List Letter) where
   holds_sets vs ws at h held =
       let few = held.few in
       let byte : (k j : ℕ) → k < length ls → j < 8 → letter_byte (sets ws at vs) k j ≡ letter_byte ws k j =
-      λ k j hk hj. get_d_sets vs ws at (8 * k + j) (omega arith) in
+      λ k j hk hj. get_or_sets vs ws at (8 * k + j) (omega arith) in
       record {
         few = few;
         letter = λ k hk.

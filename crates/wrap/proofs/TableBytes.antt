@@ -76,9 +76,9 @@ table_at ls (l ∷ r) (suc i) h =
 
 -- ---- what lies before stores, and behind them
 
-pub get_d_sets : (vs ws : List ℕ) (at x : ℕ) → x < at → get_or (sets ws at vs) x 0 ≡ get_or ws x 0
-get_d_sets [] ws at x h = refl
-get_d_sets (v ∷ vs) ws at x h = get_d_sets vs (set ws at v) (suc at) x (omega arith) ∙ get_or-set_other ws at x v 0 (λ e. omega arith)
+pub get_or_sets : (vs ws : List ℕ) (at x : ℕ) → x < at → get_or (sets ws at vs) x 0 ≡ get_or ws x 0
+get_or_sets [] ws at x h = refl
+get_or_sets (v ∷ vs) ws at x h = get_or_sets vs (set ws at v) (suc at) x (omega arith) ∙ get_or-set_other ws at x v 0 (λ e. omega arith)
 
 take_sets : (vs ws : List ℕ) (at t : ℕ) → t ≤ at → take t (sets ws at vs) ≡ take t ws
 take_sets [] ws at t h = refl
@@ -144,9 +144,9 @@ write_more ws at i k h =
 
 -- ---- bytes moved down
 
-get_d_after : (vs ws : List ℕ) (at x : ℕ) → at + length vs ≤ x → get_or (sets ws at vs) x 0 ≡ get_or ws x 0
-get_d_after [] ws at x h = refl
-get_d_after (v ∷ vs) ws at x h = get_d_after vs (set ws at v) (suc at) x (omega arith) ∙ get_or-set_other ws at x v 0 (λ e. omega arith)
+get_or_after : (vs ws : List ℕ) (at x : ℕ) → at + length vs ≤ x → get_or (sets ws at vs) x 0 ≡ get_or ws x 0
+get_or_after [] ws at x h = refl
+get_or_after (v ∷ vs) ws at x h = get_or_after vs (set ws at v) (suc at) x (omega arith) ∙ get_or-set_other ws at x v 0 (λ e. omega arith)
 
 slice_snoc : (ws : List ℕ) (a k : ℕ) → a + k < length ws → slice a (a + (k + 1)) ws ≡ slice a (a + k) ws ++ (get_or ws (a + k) 0 ∷ [])
 slice_snoc ws a k h =
@@ -168,7 +168,7 @@ pub move_more : (ws : List ℕ) (from to k : ℕ) → to + k ≤ from → from +
 move_more ws from to k h r =
     let part : List ℕ = slice from (from + k) ws in
     let n : length part ≡ k = length_part ws from k (omega arith) in
-    ap (set (sets ws to part) (to + k)) (get_d_after part ws to (from + k) (omega arith))
+    ap (set (sets ws to part) (to + k)) (get_or_after part ws to (from + k) (omega arith))
     ∙ ap (λ (x : ℕ). set (sets ws to part) (to + x) (get_or ws (from + k) 0)) (sym n)
     ∙ sets_append ws to part (get_or ws (from + k) 0 ∷ [])
     ∙ ap (sets ws to) (sym (slice_snoc ws from k r))
