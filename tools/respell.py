@@ -112,6 +112,20 @@ def in_clauses(text, new):
     return "\n".join(lines)
 
 
+def rewritten(turns):
+    """Turns each file by its function; says how many are other than they were."""
+    changed = 0
+    for path, turn in turns:
+        with open(path, encoding="utf-8") as file:
+            text = file.read()
+        after = turn(text)
+        if after != text:
+            changed += 1
+            with open(path, "w", encoding="utf-8") as file:
+                file.write(after)
+    return changed
+
+
 def main(root):
     found, fields = declared(root)
     new = renamed(found)
@@ -122,15 +136,7 @@ def main(root):
     pages += [p for p in files(os.path.join(root, "docs"), ".md") if os.sep + "notes" + os.sep not in p]
     pages += [*files(os.path.join(root, "host"), (".rs", ".c")), *files(os.path.join(root, "include"), ".h")]
     turns += [(p, lambda t: in_words(t, new)) for p in pages]
-    changed = 0
-    for path, turn in turns:
-        with open(path, encoding="utf-8") as file:
-            text = file.read()
-        after = turn(text)
-        if after != text:
-            changed += 1
-            with open(path, "w", encoding="utf-8") as file:
-                file.write(after)
+    changed = rewritten(turns)
     for name, to in sorted(new.items()):
         if to.endswith("_lem") or name in FACTS:
             print(f"{name} -> {to}")

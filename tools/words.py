@@ -9,7 +9,7 @@ import os
 import re
 import sys
 
-from respell import files
+from respell import files, rewritten
 
 PRELUDE = re.compile(r"(use Rattle\.std\.specs\.Prelude\.\{)([^}]*)(\})")
 OLD = r"(?<![\w.'-])(eqb|ltb|leb|get_or|set)(?![\w'-])"
@@ -108,16 +108,7 @@ def main(root):
     turns = [(p, definitions) for p in files(crates, ".antt") if f"{os.sep}specs{os.sep}" in p]
     turns += [(p, source) for p in files(crates, ".rt")]
     turns += [(p, edit) for p in files(crates, ".edit")]
-    changed = 0
-    for path, turn in turns:
-        with open(path, encoding="utf-8") as file:
-            text = file.read()
-        after = turn(text)
-        if after != text:
-            changed += 1
-            with open(path, "w", encoding="utf-8") as file:
-                file.write(after)
-    print(f"words: {changed} files")
+    print(f"words: {rewritten(turns)} files")
 
 
 if __name__ == "__main__":

@@ -1,5 +1,5 @@
--- Tapes and what they mean, or why they are refused, by computation. Document 01's cases a to l stand in one table, in
--- compositor's `Cases`.
+-- Tapes and stacks of them, and what they mean, or why they are refused, by computation. Document 01's cases a to l
+-- stand in one table, in compositor's `Cases`.
 use mathlib.Core.Path.{◌≡◌, refl}
 use mathlib.Core.Bool.{true}
 use mathlib.Core.List.{List, [], ◌∷◌, ◌++◌}

@@ -18,12 +18,11 @@ few c = stripes_few c.args.s _ c.requires.stripes
 -- the record has as many stripes as it counts, and 64 counters
 counted : (c : Start) → length (division_of c.args.job.stripes) ≡ c.args.job.stripes.stripe_count
 counted c =
-    let g = c.well_formed.1.1.1.1.1.0 in
     let long : length c.args.job.stripes.end_rows ≡ most_stripes = search rules in
     all_counted c.args.job.stripes long (few c)
 
 long : (c : Start) → length c.args.job.counters ≡ most_stripes
-long c = let g = c.well_formed.1.1.1.1.1.0 in search rules
+long c = search rules
 
 -- the record is sound
 sound : (c : Else-is_unsound) →

@@ -25,7 +25,7 @@ turn c =
     l.invariant.2 ∙ long_turn c.args.ends.now l.i l.place c.loop-i-test.true
 
 pub overflow_cast-end : goal.overflow_cast-end
-overflow_cast-end c = let h = c.shared_slice_known-1.given c.loop-i.i in omega arith
+overflow_cast-end c = let h = c.type_inv.ends c.loop-i.i in omega arith
 
 pub returns-then-place-end : goal.returns-then-place-end
 returns-then-place-end c =
@@ -42,7 +42,7 @@ pub loop-i-preserved : goal.loop-i-preserved
 loop-i-preserved c =
     let l = c.loop-i in
     let end = get_or c.args.ends.now l.i 0 in
-    let number = c.shared_slice_known-1.given l.i in
+    let number = c.type_inv.ends l.i in
     let h = c.if-place-end.false in
     let short : end - l.place ≤ most_bytes = omega arith in
     (omega arith, omega arith, rw (le-ltb _ _ short) at (turn (goal.at.loop-i-preserved c).In-loop-i))

@@ -31,7 +31,7 @@ turn c =
     l.invariant.1 ∙ reach_turn a.ends.now l.i a.bytes l.place c.loop-i-test.true
 
 pub overflow_cast-end : goal.overflow_cast-end
-overflow_cast-end c = let h = c.shared_slice_known-1.given c.loop-i.i in omega arith
+overflow_cast-end c = let h = c.type_inv.ends c.loop-i.i in omega arith
 
 pub returns-then-end-place : goal.returns-then-end-place
 returns-then-end-place c =
