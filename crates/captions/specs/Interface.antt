@@ -51,10 +51,10 @@ DrawAnswered settings tape ws ws' picture picture' result = Numbered (Drawn (set
 abbrev pub OpenAnswered : List ℕ → Tapes → List ℕ → List ℕ → List ℕ → List ℕ → List ℕ → List ℕ → ℕ → Type 0
 OpenAnswered settings tape ws ws' picture picture' stripes words' result =
     Numbered
-    (λ a. Opened (settings_of settings) tape ws ws' picture picture' (division_of (stripes_of stripes)) (record { answer = a; job = record_of words' }))
+    (λ a. Opened (settings_of settings) tape ws ws' picture picture' (division_of (stripes_of stripes)) a (record_of words'))
     result
 
 -- Work on stripe k with budget n: the record before and after
 abbrev pub WorkAnswered : List ℕ → Tapes → List ℕ → List ℕ → List ℕ → List ℕ → List ℕ → List ℕ → ℕ → ℕ → ℕ → Type 0
 WorkAnswered settings tape ws ws' picture picture' words words' k n result =
-    Numbered (λ a. Worked (settings_of settings) tape ws ws' picture picture' (record_of words) k n (record { answer = a; job = record_of words' })) result
+    Numbered (λ a. Worked (settings_of settings) tape ws ws' picture picture' (record_of words) k n a (record_of words')) result

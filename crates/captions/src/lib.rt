@@ -17,20 +17,19 @@ use job::{JobRecord, Stripes};
 pub extern "C" fn captions_wrap(tape: &[u8], workspace: &mut [u8], column_limit: u32) -> u64
     ensures { WrapAnswered tape.now workspace.old workspace.new column_limit result }
 {
-    wrap::wrap(tape, workspace, column_limit).packed()
+    tape::packed(wrap::wrap(tape, workspace, column_limit))
 }
 
-// The settings from numbers in their order; a color is 0xRRGGBBAA.
+// The settings from numbers in their order; a color is 0xRRGGBBAA. A function, as those below: a `From` would be of no
+// type of this crate.
 fn settings_of(words: [u32; 12]) -> Settings
     ensures { result ≡ settings_of words }
 {
-    let own = font::color_bytes(words[2]);
-    let around = font::color_bytes(words[3]);
     Settings {
         width: words[0],
         height: words[1],
-        default_color: own,
-        outline_color: around,
+        default_color: font::color_bytes(words[2]),
+        outline_color: font::color_bytes(words[3]),
         line_height_px: words[4],
         bottom_margin_px: words[5],
         outline_px: words[6],
@@ -54,45 +53,25 @@ pub extern "C" fn captions_draw(
     ensures { DrawAnswered settings.now tape.now workspace.old workspace.new
         picture.old picture.new result }
 {
-    compositor::render_into(settings_of(*settings), tape, workspace, picture).packed()
+    let s = settings_of(*settings);
+    tape::packed(compositor::render_into(s, tape, workspace, picture))
 }
-
-const STRIPES: usize = 64;
 
 // The numbers of a part, one for each stripe.
 fn taken(part: &[u32]) -> [u32; 64]
     requires { length part.now ≡ most_stripes }
     ensures { result ≡ part.now }
 {
-    let mut numbers = [0; 64];
-    let mut k = 0;
-    while k < STRIPES {
-        numbers[k] = part[k];
-        k += 1;
-    }
-    numbers
-}
-
-// Puts numbers into a part, one for each stripe.
-fn put(part: &mut [u32], numbers: [u32; 64])
-    requires { length part.old ≡ most_stripes }
-    ensures { part.new ≡ numbers }
-{
-    let mut k = 0;
-    while k < STRIPES {
-        part[k] = numbers[k];
-        k += 1;
-    }
+    *part.first_chunk().unwrap()
 }
 
 // Stripes from numbers: the count, and then the end rows.
 fn stripes_of(words: [u32; 65]) -> Stripes
     ensures { result ≡ stripes_of words }
 {
-    let ends = taken(&words[1..65]);
     Stripes {
         stripe_count: words[0],
-        end_rows: ends,
+        end_rows: taken(&words[1..]),
     }
 }
 
@@ -100,26 +79,24 @@ fn stripes_of(words: [u32; 65]) -> Stripes
 fn record_of(words: [u32; 129]) -> JobRecord
     ensures { result ≡ record_of words }
 {
-    let ends = taken(&words[1..65]);
     let stripes = Stripes {
         stripe_count: words[0],
-        end_rows: ends,
+        end_rows: taken(&words[1..65]),
     };
-    let counters = taken(&words[65..129]);
-    JobRecord { stripes, counters }
+    JobRecord {
+        stripes,
+        counters: taken(&words[65..]),
+    }
 }
 
 // The numbers that stand for a job record.
 fn words_of(job: JobRecord) -> [u32; 129]
     ensures { record_of result ≡ job }
 {
-    let stripes = job.stripes;
-    let ends = stripes.end_rows;
-    let counters = job.counters;
     let mut words = [0; 129];
-    words[0] = stripes.stripe_count;
-    put(&mut words[1..65], ends);
-    put(&mut words[65..129], counters);
+    words[0] = job.stripes.stripe_count;
+    words[1..65].copy_from_slice(&job.stripes.end_rows);
+    words[65..].copy_from_slice(&job.counters);
     words
 }
 
@@ -140,10 +117,8 @@ pub extern "C" fn captions_open(
     let s = settings_of(*settings);
     let handed = stripes_of(*stripes);
     let opened = job::open(s, tape, workspace, picture, handed);
-    let given = opened.job;
-    *record = words_of(given);
-    let answer = opened.answer;
-    answer.packed()
+    *record = words_of(opened.job);
+    tape::packed(opened.answer)
 }
 
 // The call Work: does as many strokes as the budget has, or as are left, on the rows of a stripe, and
@@ -166,6 +141,5 @@ pub extern "C" fn captions_work(
     let worked = job::work(s, tape, workspace, picture, before, stripe, budget);
     let after = worked.job;
     *record = words_of(after);
-    let answer = worked.answer;
-    answer.packed()
+    tape::packed(worked.answer)
 }

@@ -6,10 +6,8 @@ use native.Mathlib.Omega.{arith}
 use borrow.Author.Tests.{ltb-false}
 use lib.Dec.{lit≤, ltb}
 use lib.ListN.{length}
-use Rattle.tape.specs.declared.Answer.{Answer}
 use Rattle.tape.specs.declared.Style.{Style}
 use Rattle.tape.specs.Outcome.{Outcome, accepted, refused, unless, on_accepted}
-use Rattle.tape.specs.Call.{answer_of}
 use Rattle.tape.specs.Command.{most_letters}
 use Rattle.tape.specs.Runs.{Letter}
 use Rattle.tape.specs.Style.{default_with}
@@ -62,5 +60,5 @@ cue_bounded s room size tape extra most l o =
     by (suc n) k b = record { least = omega arith; greatest = k; near = lit≤ tt }
 
 -- an answer that counts strokes goes into one number
-pub strokes_pack : (most : ℕ) (o : Outcome (List Stroke)) → Bounded Few most o → {answer : Answer} → answer ≡ answer_of (on_accepted length o) → Packs answer
+pub strokes_pack : (most : ℕ) (o : Outcome (List Stroke)) → Bounded Few most o → {answer : Outcome ℕ} → answer ≡ on_accepted length o → Packs answer
 strokes_pack most o b = packs length most o (weaken Few most (λ ts. length ts < 2 ^ 32) most (omega arith) (λ ts few. let small : length ts < 2 ^ 32 = omega arith in small) o b)

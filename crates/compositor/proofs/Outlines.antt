@@ -44,9 +44,6 @@ module _ (key : GlyphKey) (pen : Pen) (o : ℕ) (at : Spot) where
   abbrev pub rows_left : ℕ → List Stroke
   rows_left dy = strokes (displacement_rows o dy (2 * o + 1 - dy))
 
-  pub row_begin : (dy : ℕ) → strokes (displacement_row o dy 0 (2 * o + 1)) ≡ row_left dy 0
-  row_begin dy = let n : 2 * o + 1 ≡ 2 * o + 1 - 0 = omega arith in ap (λ (m : ℕ). strokes (displacement_row o dy 0 m)) n
-
   pub row_turn : (dy dx : ℕ) → dx < 2 * o + 1 → row_left dy dx ≡ strokes (displacement_row o dy dx 1) ++ row_left dy (dx + 1)
   row_turn dy dx h =
       let n : 2 * o + 1 - dx ≡ suc (2 * o + 1 - (dx + 1)) = omega arith in

@@ -7,7 +7,7 @@ use native.Mathlib.Omega.{arith}
 use borrow.Author.Tests.{leb-true, le-leb, ne_eqb}
 use lib.Dec.{eqb, leb}
 use lib.ListN.{length, take, drop, length-append, length-take, drop_of_length-le}
-use lib.Seq.{slice, take-nil}
+use lib.Seq.{slice, take-nil, drop-nil}
 use Rattle.font.specs.Paint.{each_row}
 use Rattle.font.proofs.RowLaws.{rows_then, rows_kept, stroke_length}
 use Rattle.font.specs.declared.paint.Rows.{Rows}
@@ -34,8 +34,7 @@ strokes_append (t ∷ a) b y row = strokes_append a b y (stroke_on t y row)
 
 module _ {A : Type 0} where
   slice_nil : (a b : ℕ) → ◌≡◌ {A = List A} (slice a b []) []
-  slice_nil zero b = take-nil b
-  slice_nil (suc a) b = ap (drop (suc a)) (take-nil b)
+  slice_nil a b = ap (drop a) (take-nil b) ∙ drop-nil a
 
   pub slice_append : (a b : ℕ) (xs ys : List A) → slice a b (xs ++ ys) ≡ slice a b xs ++ slice (a - length xs) (b - length xs) ys
   slice_append a b [] ys =
@@ -44,13 +43,7 @@ module _ {A : Type 0} where
       rw (slice_nil a b, p, q)
   slice_append a zero (x ∷ xs) ys =
       let q : 0 - suc (length xs) ≡ 0 = omega arith in
-      rw q (none a (a - suc (length xs)))
-    where
-      none : (a c : ℕ) → ◌≡◌ {A = List A} (drop a []) (drop a [] ++ drop c [])
-      none zero zero = refl
-      none zero (suc c) = refl
-      none (suc a) zero = refl
-      none (suc a) (suc c) = refl
+      rw (q, drop-nil a, drop-nil (a - suc (length xs)))
   slice_append zero (suc b) (x ∷ xs) ys =
       let p : 0 - suc (length xs) ≡ 0 - length xs = omega arith in
       let q : suc b - suc (length xs) ≡ b - length xs = omega arith in
@@ -111,9 +104,9 @@ module _ (rows : Rows) where
     pub begin : {rest : List Stroke} → all ≡ rest → Still rest w part
     begin e w' part' q = same (sym e) q
 
-    pub turn : (a b : List Stroke) {rest : List Stroke} {left left' : Window} {now now' : List ℕ} → rest ≡ a ++ b → Lent (length now) rows
-        → Painted rows a left now now' left' → Still rest left now → Still b left' now'
-    turn a b e fits p still w' part' q = still w' part' (same (sym e) (then a b fits p q))
+    pub turn : (a b : List Stroke) {rest : List Stroke} {left left' : Window} {now now' : List ℕ} → rest ≡ a ++ b → Lent (length part) rows
+        → length now ≡ length part → Painted rows a left now now' left' → Still rest left now → Still b left' now'
+    turn a b e fits n p still w' part' q = still w' part' (same (sym e) (then a b (subst (λ (m : ℕ). Lent m rows) (sym n) fits) p q))
 
     pub done : {rest : List Stroke} {left : Window} {now : List ℕ} → rest ≡ [] → Still rest left now → Painted rows all w part now left
     done {left = left} {now} e still = still left now (same (sym e) (nothing left now))

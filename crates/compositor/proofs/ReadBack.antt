@@ -1,8 +1,8 @@
 -- Letters and lines read back from the workspace: one letter and one line after the other, as loops go.
 use mathlib.Core.Path.{◌≡◌, ◌∙◌, refl, sym, ap, subst}
-use mathlib.Core.Bool.{Bool, true, false, cond}
+use mathlib.Core.Bool.{Bool}
 use mathlib.Core.List.{List, [], ◌∷◌, ◌++◌}
-use Prim.Native.Nat.{ℕ, zero, suc, ◌+◌, ◌-◌, ◌≤◌, ◌<◌}
+use Prim.Native.Nat.{ℕ, zero, suc, ◌+◌, ◌-◌, ◌*◌, ◌≤◌, ◌<◌}
 use native.Mathlib.Omega.{arith}
 use native.Mathlib.Nat.{zero-add, add-zero, suc-add, add-suc}
 use native.Mathlib.Numerals.{add-one}
@@ -23,32 +23,18 @@ use Rattle.compositor.specs.declared.Settings.{Settings}
 use Rattle.compositor.specs.Layout.{base_line, line_width, line_start}
 use Rattle.compositor.specs.Outline.{outline_of, displacements}
 use Rattle.compositor.specs.Order.{Stroke, glyph_strokes, color_of, letter_slant, any_letter_strokes, letter_strokes, line_strokes}
-use Rattle.compositor.specs.Read.{letters_at, letters_from, strokes_at, Readable}
-use Rattle.compositor.specs.Painting.{Fonts, stroke_of, strokes_of}
+use Rattle.compositor.specs.Read.{letters_at, letters_from, strokes_at, strokes_in, Readable}
+use Rattle.compositor.specs.Painting.{stroke_of, strokes_of}
 use Rattle.compositor.specs.Ready.{Lined}
-use Rattle.compositor.proofs.Ranges.{slant_small}
 
 -- ---- a letter
 
-module _ {slant : ℕ} {regular bold slanted : List ℕ} (fonts : Fonts slant regular bold slanted) (few : slant ≤ most_slant) where
-  table_is : (b : Bool) → cond b bold regular ≡ table_of b
-  table_is true = fonts.bold_is
-  table_is false = fonts.regular_is
-
-  offsets_are : (italic : Bool) → cond italic slanted (row_offsets 0) ≡ row_offsets (cond italic slant 0)
-  offsets_are true = fonts.slanted_is
-  offsets_are false = refl
-
-  -- what is taken out of the tables is what a pen asks for
-  pub prepared : (key : GlyphKey) (k : List ℕ) (b italic : Bool) {pen : Pen} {glyph offsets : List ℕ} → pen ≡ pen_of k b (cond italic slant 0)
-      → glyph ≡ glyph_rows (cond b bold regular) key.mode key.code → offsets ≡ cond italic slanted (row_offsets 0) → Prepared key pen glyph offsets
-  prepared key k b italic {pen} {glyph} {offsets} p g f =
-      subst (λ (q : Pen). Prepared key q glyph offsets) (sym p)
-      record {
-        shear = shear_of_lem _ (slant_small few italic);
-        glyph_is = g ∙ ap (λ (table : List ℕ). glyph_rows table key.mode key.code) (table_is b);
-        offsets_are = f ∙ offsets_are italic ∙ ap row_offsets (sym (slant_back _ (slant_small few italic)));
-      }
+-- what is taken out of the tables is what a pen asks for
+pub prepared : (key : GlyphKey) (k : List ℕ) (b : Bool) (slant : ℕ) → slant ≤ most_slant → {pen : Pen} {glyph offsets : List ℕ} → pen ≡ pen_of k b slant
+    → glyph ≡ glyph_rows (table_of b) key.mode key.code → offsets ≡ row_offsets slant → Prepared key pen glyph offsets
+prepared key k b slant few {pen} {glyph} {offsets} p g f =
+    subst (λ (q : Pen). Prepared key q glyph offsets) (sym p)
+    record { shear = shear_of_lem slant few; glyph_is = g; offsets_are = f ∙ ap row_offsets (sym (slant_back slant few)) }
 
 module _ (s : Settings) where
   -- what the glyph of a letter is looked up by
@@ -56,40 +42,42 @@ module _ (s : Settings) where
   key_of code = record { mode = s.glyph_mode; code = code }
 
   -- the strokes of its glyph are those of its two pens
-  pub letter_strokes_lem : (l : Letter) (at : Spot) {code o : ℕ} {outline own : Pen} → code ≡ l.code → o ≡ outline_of s
-      → letter_slant s l ≤ most_slant
-      → outline ≡ pen_of s.outline_color l.style.bold (letter_slant s l) → own ≡ pen_of (color_of l.style) l.style.bold (letter_slant s l)
-      → strokes_of (key_of code) outline o at (displacements o) ++ (stroke_of (key_of code) own at ∷ []) ≡ any_letter_strokes s l at.x at.base
+  pub letter_strokes_lem : (l : Letter) (at : Spot) {o : ℕ} {around own : GlyphKey} {outline pen : Pen} → o ≡ outline_of s → letter_slant s l ≤ most_slant
+      → around ≡ key_of l.code → outline ≡ pen_of s.outline_color l.style.bold (letter_slant s l)
+      → own ≡ key_of l.code → pen ≡ pen_of (color_of l.style) l.style.bold (letter_slant s l)
+      → strokes_of around outline o at (displacements o) ++ (stroke_of own pen at ∷ []) ≡ any_letter_strokes s l at.x at.base
   unfolding glyph_strokes
-  letter_strokes_lem l at c r few p q =
-      (λ i. strokes_of (key_of (c i)) (p i) (r i) at (displacements (r i)) ++ (stroke_of (key_of (c i)) (q i) at ∷ []))
+  letter_strokes_lem l at r few k p j q =
+      (λ i. strokes_of (k i) (p i) (r i) at (displacements (r i)) ++ (stroke_of (j i) (q i) at ∷ []))
       ∙ λ i. glyph_strokes (glyph_rows (table_of l.style.bold) s.glyph_mode l.code) (row_offsets (slant_back (letter_slant s l) few i)) s.outline_color (color_of l.style)
       (outline_of s) at.x at.base
 
   module _ (ws : List ℕ) where
     -- ---- the letters of a line, n of them from the k-th on, of which i are drawn
 
-    module _ (base k n : ℕ) where
-      abbrev pub line_left : ℕ → ℕ → List Stroke
-      line_left x i = line_strokes s x base (letters_at ws (k + i) (n - i))
+    module _ (x base k n : ℕ) where
+      abbrev pub line_left : ℕ → List Stroke
+      line_left i = line_strokes s (x + i * cell_w) base (letters_at ws (k + i) (n - i))
 
-      pub line_begin : (x : ℕ) → line_strokes s x base (letters_at ws k n) ≡ line_left x 0
-      line_begin x =
+      pub line_begin : line_strokes s x base (letters_at ws k n) ≡ line_left 0
+      line_begin =
+          let m : x ≡ x + 0 * cell_w = omega arith in
           let p : k ≡ k + 0 = omega arith in
           let q : n ≡ n - 0 = omega arith in
-          λ i. line_strokes s x base (letters_at ws (p i) (q i))
+          λ i. line_strokes s (m i) base (letters_at ws (p i) (q i))
 
-      pub line_turn : (x i : ℕ) → i < n → line_left x i ≡ letter_strokes s (letter_at ws (number_at ws (k + i))) x base ++ line_left (x + cell_w) (i + 1)
+      pub line_turn : (i : ℕ) → i < n → line_left i ≡ letter_strokes s (letter_at ws (number_at ws (k + i))) (x + i * cell_w) base ++ line_left (i + 1)
       unfolding line_strokes letters_at
-      line_turn x i h =
+      line_turn i h =
           let m : n - i ≡ suc (n - (i + 1)) = omega arith in
           let j : suc (k + i) ≡ k + (i + 1) = omega arith in
-          ap (λ (x' : ℕ). line_strokes s x base (letters_at ws (k + i) x')) m
-          ∙ ap (λ (j' : ℕ). letter_strokes s (letter_at ws (number_at ws (k + i))) x base ++ line_strokes s (x + cell_w) base (letters_at ws j' (n - (i + 1)))) j
+          let y : x + i * cell_w + cell_w ≡ x + (i + 1) * cell_w = omega arith in
+          ap (λ (m' : ℕ). line_strokes s (x + i * cell_w) base (letters_at ws (k + i) m')) m
+          ∙ λ t. letter_strokes s (letter_at ws (number_at ws (k + i))) (x + i * cell_w) base ++ line_strokes s (y t) base (letters_at ws (j t) (n - (i + 1)))
 
-      pub line_end : (x i : ℕ) → n ≤ i → line_left x i ≡ []
+      pub line_end : (i : ℕ) → n ≤ i → line_left i ≡ []
       unfolding line_strokes letters_at
-      line_end x i h = let m : n - i ≡ 0 = omega arith in ap (λ (x' : ℕ). line_strokes s x base (letters_at ws (k + i) x')) m
+      line_end i h = let m : n - i ≡ 0 = omega arith in ap (λ (m' : ℕ). line_strokes s (x + i * cell_w) base (letters_at ws (k + i) m')) m
 
     -- ---- n lines, of which i are drawn; the next letter is the k-th
 
@@ -97,7 +85,8 @@ module _ (s : Settings) where
       abbrev pub lines_left : ℕ → ℕ → List Stroke
       lines_left k i = strokes_at s ws k i (n - i)
 
-      pub lines_begin : strokes_at s ws 0 0 n ≡ lines_left 0 0
+      pub lines_begin : strokes_in s ws n ≡ lines_left 0 0
+      unfolding strokes_in
       lines_begin = let q : n ≡ n - 0 = omega arith in ap (strokes_at s ws 0 0) q
 
       pub lines_turn : (k i : ℕ) → i < n

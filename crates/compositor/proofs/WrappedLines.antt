@@ -21,7 +21,9 @@ use Rattle.compositor.specs.Settings.{most_outline_cap}
 use Rattle.compositor.specs.Outline.{outline_of}
 use Rattle.compositor.specs.Order.{Stroke, lines_strokes, drawing}
 use Rattle.compositor.specs.Read.{letters_at, letters_from, strokes_at, strokes_in, Readable}
-use Rattle.compositor.specs.Ready.{InRange, most_lines, most_strokes, CueLaid}
+use Rattle.compositor.specs.Ready.{InRange, most_lines, most_strokes}
+use Rattle.compositor.specs.declared.layout.Layout.{Layout}
+use Rattle.compositor.specs.Checked.{CueLaid}
 use Rattle.compositor.proofs.Ranges.{outline_small}
 use Rattle.compositor.proofs.WorkspaceHolds.{readable, totals_back, strokes_back, letters_back_all}
 use Rattle.compositor.proofs.Total.{total}
@@ -53,10 +55,12 @@ module _ {ls : List Letter} {limit : ℕ} {made : Lines} {ws : List ℕ} (laid :
         ∙ ap (λ (L : ℕ). lines_strokes s ls (wrap_runs ls L)) limit_is
 
     -- they can be drawn, where a letter with ink has so many strokes
-    pub cue_laid : InRange s → (o : Outcome (List Stroke)) → o ≡ accepted (drawing s ls) → (each : ℕ) → each ≡ 1 + 8 * outline_of s → least_room ≤ length ws
-        → made.letters ≤ most_letters → made.inked ≤ most_letters → made.lines ≤ most_lines → CueLaid s o ws made.lines (made.inked * each)
-    cue_laid range o means each e room few_letters few-inked few =
+    pub cue_laid : (layout : Layout) → layout.settings ≡ s → (o : Outcome (List Stroke)) → o ≡ accepted (drawing s ls) → (each : ℕ) → each ≡ 1 + 8 * outline_of s → least_room ≤ length ws
+        → made.letters ≤ most_letters → made.inked ≤ most_letters → made.lines ≤ most_lines → CueLaid s o ws (record { layout = layout; lines = made.lines; strokes = made.inked * each })
+    cue_laid layout is o means each e room few_letters few-inked few =
+        let range : InRange s = rw is at layout.in_range in
         record {
+          settings = is;
           lined = record { readable = lines_readable room few_letters; few = few; inked = totals_read };
           means = means ∙ ap accepted (sym strokes_are);
           counts =

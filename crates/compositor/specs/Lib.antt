@@ -14,3 +14,4 @@ pub mod House
 pub mod Read
 pub mod Painting
 pub mod Ready
+pub mod Checked

@@ -1,20 +1,14 @@
 -- Promises: what the calls' functions ask of and tell each other, and those of the crates above. No reader of the
 -- deposit needs this file.
-use Rattle.std.specs.Prelude.{◌≡◌, true, List, ℕ, suc, ◌+◌, ◌*◌, ◌≤◌, ◌<◌, length}
-use Rattle.tape.specs.Outcome.{Outcome, accepted, refused, unless}
-use Rattle.tape.specs.Call.{keeps_workspace}
+use Rattle.std.specs.Prelude.{◌≡◌, List, ℕ, suc, ◌+◌, ◌*◌, ◌≤◌, ◌<◌}
 use Rattle.tape.specs.Command.{most_letters}
-use Rattle.tape.specs.Tape.{most_bytes, least_room}
 use Rattle.font.specs.Font.{cell_w}
 use Rattle.font.specs.Slant.{most_slant}
 use Rattle.wrap.specs.Shown.{inked_letters}
 use Rattle.wrap.specs.Laid.{two_byte_numbers, inked_through}
 use Rattle.compositor.specs.declared.Settings.{Settings}
-use Rattle.compositor.specs.declared.Cue.{Cue}
-use Rattle.compositor.specs.Settings.{most_pixels, most_line_height, most_side_margin, most_outline_cap, picture_bytes}
-use Rattle.compositor.specs.Order.{Stroke}
-use Rattle.compositor.specs.Draw.{Tapes, tape_strokes, cue_call}
-use Rattle.compositor.specs.Read.{letters_at, letters_from, strokes_in, Readable}
+use Rattle.compositor.specs.Settings.{most_pixels, most_line_height, most_side_margin, most_outline_cap}
+use Rattle.compositor.specs.Read.{letters_at, letters_from, Readable}
 pub use Rattle.wrap.specs.Laid.{most_lines}
 
 -- ---- what is checked before a tape is read
@@ -27,18 +21,6 @@ pub record InRange (s : Settings) : Type 0 where
   pub margin : s.side_margin_px ≤ most_side_margin
   pub slanted : s.slant ≤ most_slant
   pub cap : s.outline_cap_px ≤ most_outline_cap
-
--- settings and lengths that no call refuses
-pub record Admitted (s : Settings) (tape room size : ℕ) : Type 0 where
-  pub range : InRange s
-  pub fits : picture_bytes s ≤ size
-  pub short : tape ≤ most_bytes
-  pub enough : least_room ≤ room
-
--- the number `fault` says what a call refuses that has `extra` to refuse besides; 0 is nothing
-pub record Checked (s : Settings) (tape : Tapes) (room size extra fault : ℕ) : Type 0 where
-  pub refuses : cue_call s room size tape extra ≡ unless fault 0 (tape_strokes s tape)
-  pub fine : fault ≡ 0 → Admitted s (length tape) room size
 
 -- ---- how far positions go
 
@@ -68,16 +50,3 @@ pub record Lined (ws : List ℕ) (lines : ℕ) : Type 0 where
   pub readable : Readable ws (letters_from ws 0 lines)
   pub few : lines ≤ most_lines
   pub inked : (i : ℕ) → i < lines → inked_through ws i ≡ inked_letters (letters_at ws 0 (letters_from ws 0 (suc i)))
-
--- a call that comes to the outcome o has laid its caption: so many lines, with the strokes ts, so many
-pub record CueLaid (s : Settings) (o : Outcome (List Stroke)) (ws' : List ℕ) (lines total : ℕ) : Type 0 where
-  pub lined : Lined ws' lines
-  pub means : o ≡ accepted (strokes_in s ws' lines)
-  pub counts : total ≡ length (strokes_in s ws' lines)
-  pub few : total ≤ most_strokes
-
--- a call that comes to the outcome o has read its tape so far: the caption lies in the workspace, or the call is
--- refused
-abbrev pub CueRead : Settings → Outcome (List Stroke) → List ℕ → List ℕ → Cue → Type 0
-CueRead s o ws ws' (Cue.Laid lines total) = CueLaid s o ws' lines total
-CueRead s o ws ws' (Cue.Refused number place) = (o ≡ refused number place) × (keeps_workspace number ≡ true → ws' ≡ ws)

@@ -1,28 +1,31 @@
 // The compositor: draws a cue's letters, outlined, on a cleared picture.
 // Carried over from `Compositor` of src/compositor.rs of oxideav-subtitle; what is drawn is in specs/.
-// `ws` is the workspace throughout.
+// `ws` is the workspace throughout. A call's parameters are document 01's, and are handed on as they are.
 #![tactic(auto)]
 
 mod layout;
 pub mod strokes;
 
-ghost use Rattle.std.specs.Prelude.{◌≡◌, cond, ◌++◌, ◌+◌, ◌*◌, ◌≤◌, ◌<◌, length, drop, replicate};
+ghost use Rattle.std.specs.Prelude.{◌≡◌, ◌++◌, ◌≤◌, length, drop, replicate};
 ghost use Rattle.tape.specs.Tape.{most_bytes, least_room};
-ghost use Rattle.compositor.specs.Settings.{most_outline_cap, out_of_range, picture_bytes};
-ghost use Rattle.compositor.specs.Outline.{outline_of};
-ghost use Rattle.compositor.specs.Draw.{tape_strokes, cue_call, draw_picture};
+ghost use Rattle.compositor.specs.Settings.{out_of_range, picture_bytes};
+ghost use Rattle.compositor.specs.Draw.{tape_strokes, draw_picture};
 ghost use Rattle.compositor.specs.Drawn.{Drawn};
 ghost use Rattle.compositor.specs.Read.{strokes_in};
-ghost use Rattle.compositor.specs.Ready.{InRange, Checked, Lined, CueRead};
+ghost use Rattle.compositor.specs.Ready.{Lined};
+ghost use Rattle.compositor.specs.Checked.{Ranged, Checked, CueRead};
+ghost use Rattle.tape.specs.Answer.{outcome_of};
 
 use font::Rows;
+pub use layout::Layout;
 use strokes::Window;
-use tape::{Answer, Style};
+use tape::{Answer, Cause, Refusal, Style};
 
 const MOST_PIXELS: u32 = 4096;
 
 const MOST_LINE_HEIGHT: u32 = 1024;
 
+// Alignments and glyph modes stay numbers, no enums: a call may be given any.
 const LAST_ALIGN: u32 = 4;
 
 const LAST_GLYPH_MODE: u32 = 1;
@@ -58,158 +61,107 @@ impl Settings {
     fn is_out_of_range(self) -> bool
         ensures { result ≡ out_of_range self }
     {
-        if MOST_PIXELS < self.width {
-            return true;
-        }
-        if MOST_PIXELS < self.height {
-            return true;
-        }
-        if MOST_LINE_HEIGHT < self.line_height_px {
-            return true;
-        }
-        if LAST_ALIGN < self.align {
-            return true;
-        }
-        if LAST_GLYPH_MODE < self.glyph_mode {
-            return true;
-        }
-        if MOST_SIDE_MARGIN < self.side_margin_px {
-            return true;
-        }
-        if font::MOST_SLANT < self.slant {
-            return true;
-        }
-        MOST_OUTLINE_CAP < self.outline_cap_px
-    }
-
-    pub fn picture_bytes(self) -> usize
-        requires { InRange self }
-        ensures { result ≡ picture_bytes self }
-    {
-        self.height as usize * (4 * self.width as usize)
-    }
-
-    // The slant of an italic letter, or of an upright one.
-    fn slant_of(self, italic: bool) -> u32
-        ensures { result ≡ cond italic self.slant 0 }
-    {
-        if italic { self.slant } else { 0 }
-    }
-
-    // The outline as it is drawn.
-    fn outline(self) -> usize
-        requires { InRange self }
-        ensures { (result ≡ outline_of self) × (result ≤ most_outline_cap) }
-    {
-        if self.outline_px < self.outline_cap_px {
-            return self.outline_px as usize;
-        }
-        self.outline_cap_px as usize
-    }
-
-    // The strokes of a letter with ink: its outline's, and its own.
-    fn letter_strokes(self) -> usize
-        requires { InRange self }
-        ensures { (result ≡ 1 + 8 * outline_of self) × (result ≤ 1 + 8 * most_outline_cap) }
-    {
-        1 + 8 * self.outline()
+        MOST_PIXELS < self.width
+            || MOST_PIXELS < self.height
+            || MOST_LINE_HEIGHT < self.line_height_px
+            || LAST_ALIGN < self.align
+            || LAST_GLYPH_MODE < self.glyph_mode
+            || MOST_SIDE_MARGIN < self.side_margin_px
+            || font::MOST_SLANT < self.slant
+            || MOST_OUTLINE_CAP < self.outline_cap_px
     }
 }
 
-// A tape's caption.
+impl TryFrom<Settings> for Layout {
+    type Error = Refusal;
+
+    ghost try_from_gives = { Ranged };
+
+    fn try_from(settings: Settings) -> Result<Layout, Refusal>
+        ensures { Ranged settings result }
+    {
+        if settings.is_out_of_range() {
+            return Err(Cause::OutOfRange.at(0));
+        }
+        Ok(Layout { settings })
+    }
+}
+
+// A caption that lies in the workspace, wrapped: how many lines it has, and strokes.
 #[derive(Clone, Copy)]
-pub enum Cue {
-    // It lies in the workspace, wrapped: how many lines it has, and strokes.
-    Laid(usize, usize),
-    // A refusal's number and place.
-    Refused(u8, usize),
+pub struct Laid {
+    pub layout: Layout,
+    pub lines: usize,
+    pub strokes: usize,
 }
 
-// What is refused before a tape is read, by its number: 8, 9, 10 or 11, or else `extra`, for what the
-// call has to check besides. 0 is nothing.
-fn first_fault(s: Settings, tape: &[u8], room: usize, size: usize, extra: u8) -> u8
-    ensures { Checked s tape.now room size extra result }
+// Checks what every call that draws checks before it reads a tape, for a workspace of `room` bytes and
+// a picture's buffer of `size`.
+pub fn check(s: Settings, tape: &[u8], room: usize, size: usize) -> Result<Layout, Refusal>
+    ensures { Checked s tape.now room size result }
 {
-    if s.is_out_of_range() {
-        return 8;
-    }
-    if size < s.picture_bytes() {
-        return 9;
+    let layout = Layout::try_from(s)?;
+    if size < layout.picture_bytes() {
+        return Err(Cause::PictureTooShort.at(0));
     }
     if tape::MOST_BYTES < tape.len() {
-        return 10;
+        return Err(Cause::TapeTooLong.at(0));
     }
     if room < tape::LEAST_ROOM {
-        return 11;
+        return Err(Cause::WorkspaceTooShort.at(0));
     }
-    extra
+    Ok(layout)
 }
 
 // Reads a tape and puts its letters on lines.
-fn lay_cue(s: Settings, tape: &[u8], ws: &mut [u8]) -> Cue
-    requires { InRange s × (length tape.now ≤ most_bytes) × (least_room ≤ length ws.old) }
-    ensures { CueRead s (tape_strokes s tape.now) ws.old ws.new result }
+pub fn lay_cue(layout: Layout, tape: &[u8], ws: &mut [u8]) -> Result<Laid, Refusal>
+    requires { (length tape.now ≤ most_bytes) × (least_room ≤ length ws.old) }
+    ensures { CueRead layout.settings (tape_strokes layout.settings tape.now) ws.old ws.new result }
 {
-    let color = s.default_color;
-    match tape::read_tape(tape, ws, Style::default_with(color)) {
-        Answer::Accepted(count) => {
-            let made = wrap::wrap_runs(ws, count, layout::column_limit(s));
-            Cue::Laid(made.lines, made.inked * s.letter_strokes())
-        }
-        Answer::Refused(number, place) => Cue::Refused(number, place),
-    }
+    let style = Style::default_with(layout.settings.default_color);
+    let count = tape::read_tape(tape, ws, style)?;
+    let made = wrap::wrap_runs(ws, count, layout.column_limit());
+    Ok(Laid {
+        layout,
+        lines: made.lines,
+        strokes: made.inked * layout.letter_strokes(),
+    })
 }
 
-// Checks what every call that draws checks, for a picture's buffer of `size` bytes, and reads the
-// tape; `extra` is the number of what the call has to refuse besides, before the tape is read, or 0.
-pub fn read_cue(s: Settings, tape: &[u8], ws: &mut [u8], size: usize, extra: u8) -> Cue
-    ensures { CueRead s (cue_call s (length ws.old) size tape.now extra)
-        ws.old ws.new result }
-{
-    let fault = first_fault(s, tape, ws.len(), size, extra);
-    if 0 < fault {
-        return Cue::Refused(fault, 0);
-    }
-    lay_cue(s, tape, ws)
-}
-
-// Zeroes the first `size` bytes.
+// Zeroes the first `size` bytes: a caller may lend more than the picture has.
 pub fn clear(picture: &mut [u8], size: usize)
     requires { size ≤ length picture.old }
     ensures { picture.new ≡ replicate size 0 ++ drop size picture.old }
 {
-    let mut i = 0;
-    while i < size {
-        picture[i] = 0;
-        i += 1;
-    }
+    picture[..size].fill(0);
 }
 
 // Draws the caption that lies in the workspace, all its strokes, on a cleared picture.
-fn draw_cue(s: Settings, ws: &[u8], lines: usize, total: usize, picture: &mut [u8])
-    requires { InRange s × (picture_bytes s ≤ length picture.old) × Lined ws.now lines × (total ≡ length (strokes_in s ws.now lines)) }
-    ensures { picture.new ≡ draw_picture s picture.old (strokes_in s ws.now lines) }
+fn draw_cue(laid: Laid, ws: &[u8], picture: &mut [u8])
+    requires { (picture_bytes laid.layout.settings ≤ length picture.old) × Lined ws.now laid.lines
+        × (laid.strokes ≡ length (strokes_in laid.layout.settings ws.now laid.lines)) }
+    ensures { picture.new
+        ≡ draw_picture laid.layout.settings picture.old (strokes_in laid.layout.settings ws.now laid.lines) }
 {
-    clear(picture, s.picture_bytes());
+    let layout = laid.layout;
+    clear(picture, layout.picture_bytes());
     let rows = Rows {
-        width: s.width as usize,
-        count: s.height as usize,
+        width: layout.settings.width as usize,
+        count: layout.settings.height as usize,
         first: 0,
     };
+    let total = laid.strokes;
     let all = Window { from: 0, to: total };
-    strokes::draw_lines(picture, rows, ws, s, lines, all);
+    strokes::draw_lines(picture, rows, ws, layout, laid.lines, all);
 }
 
 // The call Draw: the picture then shows the tape's caption on zeros, and the answer is how many
 // strokes it has. A refusal leaves the picture as it is.
 pub fn render_into(s: Settings, tape: &[u8], ws: &mut [u8], picture: &mut [u8]) -> Answer
-    ensures { Drawn s tape.now ws.old ws.new picture.old picture.new result }
+    ensures { Drawn s tape.now ws.old ws.new picture.old picture.new (outcome_of result) }
 {
-    match read_cue(s, tape, ws, picture.len(), 0) {
-        Cue::Laid(lines, total) => {
-            draw_cue(s, ws, lines, total, picture);
-            Answer::Accepted(total)
-        }
-        Cue::Refused(number, place) => Answer::Refused(number, place),
-    }
+    let layout = check(s, tape, ws.len(), picture.len())?;
+    let laid = lay_cue(layout, tape, ws)?;
+    draw_cue(laid, ws, picture);
+    Ok(laid.strokes)
 }

@@ -1,20 +1,9 @@
--- An array that is filled from its start with f 0, f 1, and so on.
-use Rattle.std.proofs.Common.{◌≡◌, ℕ, zero, suc, ◌+◌, ◌<◌, List, [], ◌∷◌, length, get_or, take, set, sym, refl, ap, ◌∙◌, ⊎_elim, le_of_eq, le_of_suc-le-suc, eq-or-lt_of_le, add-one, arith, length-append, take_all, take-suc-set}
+-- An array of f 0, f 1, and so on: its length and its entries, and that these make it.
+use Rattle.std.proofs.Common.{◌≡◌, ℕ, zero, suc, ◌+◌, ◌<◌, List, [], ◌∷◌, length, get_or, sym, refl, ap, ◌∙◌, ⊎_elim, le_of_suc-le-suc, eq-or-lt_of_le, add-one, arith, length-append}
+use Rattle.std.proofs.lemmas.List.{ext_get_or}
 use lib.ListN.{get_or-append}
 use lib.Seq.{get_or_at}
 use Rattle.font.specs.Font.{tabulate}
-
-module _ (f : ℕ → ℕ) (out : List ℕ) (n : ℕ) where
-  -- one element more
-  pub fill_step : (v : ℕ) → n < length out → take n out ≡ tabulate f n → v ≡ f n → take (n + 1) (set out n v) ≡ tabulate f (n + 1)
-  unfolding tabulate
-  fill_step v h e q = rw (add-one, take-suc-set out n v h, e, q)
-
-  -- all of them
-  pub fill_end : length out ≡ n → take n out ≡ tabulate f n → out ≡ tabulate f n
-  fill_end h e = sym (take_all n out (le_of_eq h)) ∙ e
-
--- ---- what it then holds
 
 pub tabulate_length : (f : ℕ → ℕ) (n : ℕ) → length (tabulate f n) ≡ n
 unfolding tabulate
@@ -30,3 +19,9 @@ tabulate_at f (suc n) k d h =
     (λ e. get_or_at (tabulate f n) (f n) [] d k (long ∙ sym e) ∙ ap f (sym e))
     (λ l. get_or-append (tabulate f n) (f n ∷ []) d k (omega arith) ∙ tabulate_at f n k d l)
     (eq-or-lt_of_le (le_of_suc-le-suc h))
+
+-- a list that has these entries is the array
+pub tabulated : (f : ℕ → ℕ) (n : ℕ) (l : List ℕ) → length l ≡ n → ((k : ℕ) → k < n → get_or l k 0 ≡ f k) → l ≡ tabulate f n
+tabulated f n l e at =
+    ext_get_or 0 l (tabulate f n) (e ∙ sym (tabulate_length f n))
+    (λ k h. let below : k < n = omega arith in at k below ∙ sym (tabulate_at f n k 0 below))

@@ -1,5 +1,5 @@
 -- Laws of a glyph's row painted into a picture's row.
-use Rattle.std.proofs.Common.{◌≡◌, ℕ, zero, suc, ◌+◌, ◌-◌, ◌*◌, ◌<◌, ◌≤◌, Bool, true, false, cond, List, length, get_or, refl, ◌∙◌, add-one, eq-eqb, le-leb}
+use Rattle.std.proofs.Common.{◌≡◌, ℕ, zero, suc, ◌+◌, ◌-◌, ◌*◌, ◌<◌, Bool, true, false, cond, List, length, get_or, refl, ◌∙◌, eq-eqb}
 use native.Mathlib.Nat.{zero-div}
 use borrow.Author.Tests.{lt-leb}
 use Rattle.font.specs.Blend.{blend_pixel}
@@ -29,25 +29,10 @@ module _ (k : List ℕ) (bits x : ℕ) where
       cond_length (lit bits n) (paint_column k (x + n) so_far) so_far
       (column_length k (x + n) so_far ∙ columns_length n row) (columns_length n row)
 
-  -- one column more, as a loop has it
-  pub columns_step : (n : ℕ) (row : List ℕ) {now next : List ℕ} → now ≡ paint_columns k bits x n row
-      → next ≡ cond (lit bits n) (paint_column k (x + n) now) now → next ≡ paint_columns k bits x (n + 1) row
-  unfolding paint_columns
-  columns_step n row p q = rw (add-one, ← p) q
-
--- the three cases of a column
-pub column_on : (k : List ℕ) (x : ℕ) (row : List ℕ) → origin ≤ x → 4 * (x - origin) + 4 ≤ length row
-    → paint_column k x row ≡ blend_pixel k (4 * (x - origin)) row
-unfolding paint_column
-column_on k x row h j = simp (le-leb origin x h, le-leb (4 * (x - origin) + 4) (length row) j)
-
+-- a column left of the picture
 pub column_left : (k : List ℕ) (x : ℕ) (row : List ℕ) → x < origin → paint_column k x row ≡ row
 unfolding paint_column
 column_left k x row h = simp (lt-leb origin x h)
-
-pub column_right : (k : List ℕ) (x : ℕ) (row : List ℕ) → origin ≤ x → length row < 4 * (x - origin) + 4 → paint_column k x row ≡ row
-unfolding paint_column
-column_right k x row h j = simp (le-leb origin x h, lt-leb (4 * (x - origin) + 4) (length row) j)
 
 -- a blank row of a glyph paints nothing
 pub columns_blank : (k : List ℕ) (x n : ℕ) (row : List ℕ) → paint_columns k 0 x n row ≡ row

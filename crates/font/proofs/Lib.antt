@@ -1,5 +1,5 @@
 -- Laws of tables, of the slant, and of painting; the notation's signs.
-pub mod ArrayFill  -- an array that is filled from its start with f 0, f 1, and so on, and its entries
+pub mod ArrayFill  -- an array of f 0, f 1, and so on: its length, its entries, and that these make it
 pub mod EveryEntry  -- a rule at each entry of a list, or at each number below n, by computed tests
 pub mod GlyphRules  -- the two rules of the glyph tables, over the whole table
 pub mod Modes  -- the glyphs of mode 1 are those of mode 0

@@ -1,6 +1,7 @@
 -- The slant in f32: what holds of each of the sixteen rows at each of the nine slants, by a test that antt computes.
 use Rattle.std.proofs.Common.{◌≡◌, ℕ, suc, ◌+◌, ◌-◌, ◌/◌, ◌^◌, ◌<◌, ◌≤◌, Bool, true, false, cond, ◌&&◌, T, eqb, ltb, leb, replicate, pos, ◌-ℤ◌, sym, ap, arith, eqb→eq, ltb→lt, leb→le, w16, SFits}
-use lib.Ieee.{Float, fin, binary32, lt, neg, mul, div, of_int, to_unsigned}
+use lib.Ieee.{Float, fin, binary32, lt, mul, div, of_int, to_unsigned}
+use Rattle.std.specs.Float.{float_with_sign}
 use lib.Ieee.Fits.{and_l, and_r}
 use lib.ListN.{length-replicate}
 use lib.Signed.{mag}
@@ -23,50 +24,50 @@ passes_all f = passes (suc most_slant) (λ slant. passes cell_h (f slant))
 passed_all : (f : ℕ → ℕ → Bool) → T (passes_all f) → (slant r : ℕ) → slant ≤ most_slant → r < cell_h → T (f slant r)
 passed_all f t slant r h l = passed cell_h (f slant) (passed (suc most_slant) (λ slant. passes cell_h (f slant)) t slant (omega arith)) r l
 
--- what `round` cuts, where x is below zero and where it is not
-abbrev pub twice : Bool → Float → Float
-twice below x = mul binary32 (cond below (neg x) x) (fin false 1 (pos 1))
+-- what `round` cuts, and what it moves a row by, where a is x without its sign
+abbrev pub twice : Float → Float
+twice a = mul binary32 a (fin false 1 (pos 1))
 
-abbrev pub half : Bool → Float → ℕ
-half below x = (to_unsigned 64 (twice below x) + 1) / 2
+abbrev pub half : Float → ℕ
+half a = (to_unsigned 64 (twice a) + 1) / 2
 
 -- `round` may cut it, and finds what it should
-pub record Rounds (below : Bool) (x : Float) : Type 0 where
-  pub low : T (lt (fin true 1 (pos 0)) (twice below x))
-  pub high : T (lt (twice below x) (fin false 1 (pos 64)))
-  pub small : half below x ≤ unmoved
-  pub is : cond below (unmoved - half below x) (unmoved + half below x) ≡ rounded x
+pub record Rounds (x a : Float) : Type 0 where
+  pub low : T (lt (fin true 1 (pos 0)) (twice a))
+  pub high : T (lt (twice a) (fin false 1 (pos 64)))
+  pub small : half a ≤ unmoved
+  pub is : cond (lt x (float 0)) (unmoved - half a) (unmoved + half a) ≡ rounded x
 
-low? : Bool → Float → Bool
-low? below x = lt (fin true 1 (pos 0)) (twice below x)
+low? : Float → Bool
+low? a = lt (fin true 1 (pos 0)) (twice a)
 
-high? : Bool → Float → Bool
-high? below x = lt (twice below x) (fin false 1 (pos 64))
+high? : Float → Bool
+high? a = lt (twice a) (fin false 1 (pos 64))
 
-small? : Bool → Float → Bool
-small? below x = leb (half below x) unmoved
+small? : Float → Bool
+small? a = leb (half a) unmoved
 
-is? : Bool → Float → Bool
-is? below x = eqb (cond below (unmoved - half below x) (unmoved + half below x)) (rounded x)
+is? : Float → Float → Bool
+is? x a = eqb (cond (lt x (float 0)) (unmoved - half a) (unmoved + half a)) (rounded x)
 
-rounds? : Bool → Float → Bool
-rounds? below x = low? below x && (high? below x && (small? below x && is? below x))
+rounds? : Float → Float → Bool
+rounds? x a = low? a && (high? a && (small? a && is? x a))
 
-rounds : (below : Bool) (x : Float) → T (rounds? below x) → Rounds below x
+rounds : (x a : Float) → T (rounds? x a) → Rounds x a
 unfolding rounds? low? high? small? is?
-rounds below x t =
-    let t1 = and_r (low? below x) (high? below x && (small? below x && is? below x)) t in
-    let t2 = and_r (high? below x) (small? below x && is? below x) t1 in
+rounds x a t =
+    let t1 = and_r (low? a) (high? a && (small? a && is? x a)) t in
+    let t2 = and_r (high? a) (small? a && is? x a) t1 in
     record {
-      low = and_l (low? below x) (high? below x && (small? below x && is? below x)) t;
-      high = and_l (high? below x) (small? below x && is? below x) t1;
-      small = leb→le _ _ (and_l (small? below x) (is? below x) t2);
-      is = eqb→eq _ _ (and_r (small? below x) (is? below x) t2);
+      low = and_l (low? a) (high? a && (small? a && is? x a)) t;
+      high = and_l (high? a) (small? a && is? x a) t1;
+      small = leb→le _ _ (and_l (small? a) (is? x a) t2);
+      is = eqb→eq _ _ (and_r (small? a) (is? x a) t2);
     }
 
 -- of row r at a slant, `round` may cut what it moves by, and the rounded f32 is the rounded fraction
 cut? : ℕ → ℕ → Bool
-cut? slant r = rounds? (lt (moved slant r) (float 0)) (moved slant r)
+cut? slant r = rounds? (moved slant r) (float_with_sign false (moved slant r))
 
 offset? : ℕ → ℕ → Bool
 offset? slant r = eqb (rounded (moved slant r)) (row_offset slant r)
@@ -76,14 +77,14 @@ right? slant r = cut? slant r && offset? slant r
 
 -- THE TEST, of all slants and rows together
 all_right : T (passes_all right?)
-unfolding right? cut? offset? rounds? low? high? small? is? moved shear_of of_int mul div lt neg to_unsigned rounded
+unfolding right? cut? offset? rounds? low? high? small? is? moved shear_of of_int mul div lt to_unsigned float_with_sign rounded
 all_right = tt
 
-pub moved_rounds : (x : Float) → Moved x → Rounds (lt x (float 0)) x
+pub moved_rounds : (x a : Float) → a ≡ float_with_sign false x → Moved x → Rounds x a
 unfolding right? cut?
-moved_rounds x m =
+moved_rounds x a e m =
     let t = passed_all right? all_right m.slant m.row m.few m.below in
-    rw m.is (rounds _ _ (and_l (cut? m.slant m.row) (offset? m.slant m.row) t))
+    rw (e, m.is) (rounds _ _ (and_l (cut? m.slant m.row) (offset? m.slant m.row) t))
 
 pub moved_offset : (slant r : ℕ) → slant ≤ most_slant → r < cell_h → rounded (moved slant r) ≡ row_offset slant r
 unfolding right? offset?

@@ -16,7 +16,7 @@ ghost use Rattle.font.specs.Shear.{font_of, pen_of, slant_of, Shear, Moved, roun
 pub use paint::{ORIGIN, Rows, Spot, draw_glyph_sheared, draw_lowest_rows};
 
 // A font: the bold mark that picks its table. The metrics, in pixels, are those of both fonts.
-#[derive(Clone, Copy)]
+#[derive(Clone, Copy, PartialEq, Eq, Debug)]
 pub struct BitmapFont {
     pub bold: bool,
 }
@@ -29,6 +29,7 @@ impl BitmapFont {
     // How far the base line lies below a cell's top.
     pub const BEARING_Y: u32 = 12;
 
+    // The two fonts, by the original's names, which document 01 keeps.
     pub fn default_regular() -> BitmapFont
         ensures { result ≡ font_of false }
     {
@@ -55,7 +56,8 @@ impl BitmapFont {
 }
 
 // What a glyph is looked up by: a code point, and the glyph mode that it is drawn in.
-#[derive(Clone, Copy)]
+// The mode is a number, no enum: `glyph_rows` takes any, and `drawn_code` says what each draws.
+#[derive(Clone, Copy, PartialEq, Eq, Debug)]
 pub struct GlyphKey {
     pub mode: u32,
     pub code: u32,
@@ -63,18 +65,15 @@ pub struct GlyphKey {
 
 impl GlyphKey {
     // The code point whose glyph is drawn.
+    #[tactic(auto, unfolding(crate::specs::Modes::replaced))]
     fn drawn_code(self) -> u32
         ensures { result ≡ drawn_code self.mode self.code }
     {
-        let code = self.code;
-        if self.mode != 1 {
-            return code;
-        }
-        match code {
-            0x2018 | 0x2019 => 0x27,
-            0x201c | 0x201d => 0x22,
-            0x2013 | 0x2014 => 0x2d,
-            _ => code,
+        match (self.mode, self.code) {
+            (1, 0x2018 | 0x2019) => 0x27,
+            (1, 0x201c | 0x201d) => 0x22,
+            (1, 0x2013 | 0x2014) => 0x2d,
+            (_, code) => code,
         }
     }
 }
@@ -88,12 +87,8 @@ pub fn glyph_rows(table: &[u8; 4096], key: GlyphKey) -> [u8; 16]
         return tables::MISSING_GLYPH;
     }
     let at = code as usize * 16;
-    let mut rows = [0u8; 16];
-    let mut r = 0;
-    while r < 16 {
-        rows[r] = table[at + r];
-        r += 1;
-    }
+    let mut rows = [0; 16];
+    rows.copy_from_slice(&table[at..at + 16]);
     rows
 }
 
@@ -101,28 +96,14 @@ pub fn glyph_rows(table: &[u8; 4096], key: GlyphKey) -> [u8; 16]
 pub fn has_ink(code: u32) -> bool
     ensures { result ≡ is_inked code }
 {
-    if code <= 0x20 {
-        return false;
-    }
-    if code < 0x7f {
-        return true;
-    }
-    if code <= 0xa0 {
-        return false;
-    }
-    code != 0xad
+    !matches!(code, 0..=0x20 | 0x7f..=0xa0 | 0xad)
 }
 
-// The bytes of a color 0xRRGGBBAA.
+// The bytes of a color 0xRRGGBBAA, by the name that the definitions have for them.
 pub fn color_bytes(color: u32) -> [u8; 4]
     ensures { result ≡ color_bytes color }
 {
-    [
-        (color / 0x100_0000) as u8,
-        (color / 0x1_0000 % 256) as u8,
-        (color / 0x100 % 256) as u8,
-        (color % 256) as u8,
-    ]
+    color.to_be_bytes()
 }
 
 // The largest slant, in eighths of a cell's width.
@@ -133,7 +114,7 @@ pub const UNMOVED: u8 = 8;
 
 // What a stroke is drawn with: a color, the bold mark that picks the glyph, and how far the glyph's
 // rows are sheared.
-#[derive(Clone, Copy)]
+#[derive(Clone, Copy, PartialEq, Debug)]
 pub struct Pen {
     pub color: [u8; 4],
     pub bold: bool,
@@ -151,17 +132,15 @@ impl Pen {
     }
 
     // How far the pen moves each row of a glyph to the right, plus `UNMOVED`: worked out once for a
-    // slant and lent to its strokes.
+    // slant and lent to its strokes. By `array::from_fn` the proof did not close.
+    #[tactic(auto, using(crate::proofs::ArrayFill::tabulated))]
     pub fn row_offsets(self) -> [u8; 16]
         requires { Shear self.shear }
         ensures { result ≡ row_offsets (slant_of self.shear) }
     {
-        let shear = self.shear;
-        let mut offsets = [0u8; 16];
-        let mut r = 0;
-        while r < 16 {
-            offsets[r] = row_offset(shear, r);
-            r += 1;
+        let mut offsets = [0; 16];
+        for (r, offset) in offsets.iter_mut().enumerate() {
+            *offset = row_offset(self.shear, r);
         }
         offsets
     }
@@ -179,13 +158,15 @@ fn row_offset(shear: f32, r: usize) -> u8
 // What a row moves by, to the nearest whole number, halves away from zero, plus `UNMOVED`. Twice x is
 // cut and halved again. x is what one of the sixteen rows moves by at one of the nine slants: 144
 // cases, and of no other x is anything said.
+// Not `f32::round`: document 01 has the port round by a function of its own.
 fn round(x: f32) -> u8
     requires { Moved x }
     ensures { result ≡ rounded x }
 {
+    let columns = ((std::num::truncating_f32_to_u64(x.abs() * 2.0) + 1) / 2) as u8;
     if x < 0.0 {
-        (UNMOVED as u64 - (std::num::truncating_f32_to_u64(-x * 2.0) + 1) / 2) as u8
+        UNMOVED - columns
     } else {
-        (UNMOVED as u64 + (std::num::truncating_f32_to_u64(x * 2.0) + 1) / 2) as u8
+        UNMOVED + columns
     }
 }

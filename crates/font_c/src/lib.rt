@@ -1,5 +1,6 @@
 // The font for callers in C and Rust: what `host/` compares with the original, glyph by glyph, stroke
 // by stroke and row by row. The captions themselves have an interface of their own.
+// What is exported takes numbers and flags, in place of fonts, pens and spots, since C knows none.
 #![tactic(auto)]
 
 ghost use Rattle.std.specs.Prelude.{◌≡◌};
@@ -12,13 +13,15 @@ use font::{BitmapFont, GlyphKey, Pen, Rows, Spot};
 const MOST_LENT: usize = 4096;
 
 // The table of the font that the bold mark picks.
+// Each arm makes its own table. Tried as one: behind a choice of the font the 4,096 bytes are copied once more.
 fn table(bold: bool) -> [u8; 4096]
     ensures { result ≡ table_of bold }
 {
     if bold {
-        return BitmapFont::default_bold().table();
+        BitmapFont::default_bold().table()
+    } else {
+        BitmapFont::default_regular().table()
     }
-    BitmapFont::default_regular().table()
 }
 
 // Writes the sixteen rows that are drawn for a code point in a glyph mode.
@@ -29,44 +32,32 @@ pub extern "C" fn font_glyph_rows(mode: u32, code: u32, bold: bool, rows: &mut [
     *rows = font::glyph_rows(&table(bold), GlyphKey { mode, code });
 }
 
+#[tactic(auto, unfolding(crate::specs::Exported::near))]
 fn is_near(x: usize) -> bool
     ensures { result ≡ near x }
 {
-    if x < font::ORIGIN / 2 {
-        return false;
-    }
-    x < 2 * font::ORIGIN
+    (font::ORIGIN / 2..2 * font::ORIGIN).contains(&x)
 }
 
 // Whether n bytes hold these rows, the slant is one of the nine, and the position is near.
+#[tactic(auto, unfolding(crate::specs::Exported::admitted))]
 fn is_admitted(n: usize, rows: Rows, slant: u32, at: Spot) -> bool
     ensures { result ≡ admitted n rows.width rows.count rows.first slant at.x at.base }
 {
-    if font::MOST_SLANT < slant {
-        return false;
-    }
-    if MOST_LENT < rows.width {
-        return false;
-    }
-    if MOST_LENT < rows.count {
-        return false;
-    }
-    if MOST_LENT < rows.first {
-        return false;
-    }
-    if !is_near(at.x) {
-        return false;
-    }
-    if !is_near(at.base) {
-        return false;
-    }
-    rows.count * (4 * rows.width) <= n
+    slant <= font::MOST_SLANT
+        && rows.width <= MOST_LENT
+        && rows.count <= MOST_LENT
+        && rows.first <= MOST_LENT
+        && is_near(at.x)
+        && is_near(at.base)
+        && rows.count * (4 * rows.width) <= n
 }
 
 // Blends the `count` lowest rows of a glyph, more than sixteen being all of them, into a part of a
 // picture: `rows` rows of `width` pixels from the picture's row `first` on. The slant is in eighths of
 // a cell's width, 0 upright. x and y, the left column and the base line, are counted from an origin
 // 2^26 left of and above the picture. Answers false, and leaves the part, where these are out of range.
+#[tactic(auto, using(crate::proofs::Admitted::asked), unfolding(crate::specs::Exported::stroked_rows))]
 #[unsafe(no_mangle)]
 pub extern "C" fn font_stroke_rows(
     part: &mut [u8],

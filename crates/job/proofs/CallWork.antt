@@ -5,7 +5,6 @@ use mathlib.Core.List.{List}
 use Prim.Native.Nat.{ℕ, ◌+◌, ◌-◌, ◌≤◌, min}
 use lib.ListN.{length, take, drop, length-take, length-drop, take-append-drop}
 use lib.Seq.{slice, length-take-le, take-append_seam, take-add, drop_at}
-use Rattle.tape.specs.declared.Answer.{Answer}
 use Rattle.tape.specs.Outcome.{Outcome, accepted, refused, refuse_if, and_then}
 use Rattle.tape.specs.Call.{keeps_workspace, Workspace, IsFree}
 use Rattle.tape.proofs.Calls.{comes_to, refuses, accepts}
@@ -13,7 +12,6 @@ use Rattle.compositor.specs.declared.Settings.{Settings}
 use Rattle.compositor.specs.Order.{Stroke}
 use Rattle.compositor.specs.Draw.{Tapes}
 use Rattle.job.specs.declared.JobRecord.{JobRecord}
-use Rattle.job.specs.declared.JobAnswer.{JobAnswer}
 use Rattle.job.specs.Stripes.{has_stripe, division_of, counter_of, with_counter, counters_unsound}
 use Rattle.job.specs.Work.{open_call, step_strokes, on_stripe, stripe_call, work_call}
 use Rattle.job.specs.Worked.{Worked}
@@ -43,7 +41,7 @@ module _ (s : Settings) (ts : List Stroke) (ws picture : List ℕ) (job : JobRec
 
   pub did_step : (m : ℕ) → c ≤ length ts → m ≡ min n (length ts - c) → {picture' : List ℕ}
       → picture' ≡ on_stripe s (division_of job.stripes) k (slice c (c + m) ts) picture
-      → Did s job k (accepted (step_strokes job k n ts)) ws picture picture' (record { answer = Answer.Accepted m; job = with_counter job k (c + m) })
+      → Did s job k (accepted (step_strokes job k n ts)) ws picture picture' (accepted m) (with_counter job k (c + m))
   did_step m few e p =
       let count : m ≡ length (step_strokes job k n ts) = e ∙ sym (strokes_done ts c n) in
       accepts refl count
@@ -53,18 +51,18 @@ module _ (s : Settings) (ts : List Stroke) (ws picture : List ℕ) (job : JobRec
       tt
 
   pub unsound : counters_unsound (division_of job.stripes) (length ts) 0 job.counters ≡ true
-      → Did s job k (stripe_call job k n ts) ws picture picture (record { answer = Answer.Refused 14 0; job = job })
+      → Did s job k (stripe_call job k n ts) ws picture picture (refused 14 0) job
   unfolding stripe_call
   unsound e = refuses (rw e) (λ _. refl)
 
   module _ (sound : counters_unsound (division_of job.stripes) (length ts) 0 job.counters ≡ false) where
     pub no_stripe : has_stripe (division_of job.stripes) k ≡ false
-        → Did s job k (stripe_call job k n ts) ws picture picture (record { answer = Answer.Refused 12 0; job = job })
+        → Did s job k (stripe_call job k n ts) ws picture picture (refused 12 0) job
     unfolding stripe_call
     no_stripe e = refuses (rw (sound, e)) (λ _. refl)
 
-    pub did_work : has_stripe (division_of job.stripes) k ≡ true → {picture' : List ℕ} {r : JobAnswer}
-        → Did s job k (accepted (step_strokes job k n ts)) ws picture picture' r → Did s job k (stripe_call job k n ts) ws picture picture' r
+    pub did_work : has_stripe (division_of job.stripes) k ≡ true → {picture' : List ℕ} {answer : Outcome ℕ} {job' : JobRecord}
+        → Did s job k (accepted (step_strokes job k n ts)) ws picture picture' answer job' → Did s job k (stripe_call job k n ts) ws picture picture' answer job'
     unfolding stripe_call
     did_work there d = comes_to (rw (sound, there)) d
 
@@ -85,12 +83,12 @@ module _ (s : Settings) (tape : Tapes) (ws ws' picture : List ℕ) (job : JobRec
   opens = open_call s (length ws) (length picture) tape (division_of job.stripes)
 
   pub not_worked : {number place : ℕ} → opens ≡ refused number place → (keeps_workspace number ≡ true → ws' ≡ ws)
-      → Worked s tape ws ws' picture picture job k n (record { answer = Answer.Refused number place; job = job })
+      → Worked s tape ws ws' picture picture job k n (refused number place) job
   unfolding work_call
   not_worked e l = refuses (ap (and_then (stripe_call job k n)) e) l
 
-  pub worked_on : {picture' : List ℕ} {ts : List Stroke} {r : JobAnswer} {own : List ℕ} → opens ≡ accepted ts
-      → Did s job k (stripe_call job k n ts) own picture picture' r → Worked s tape ws ws' picture picture' job k n r
+  pub worked_on : {picture' : List ℕ} {ts : List Stroke} {answer : Outcome ℕ} {job' : JobRecord} {own : List ℕ} → opens ≡ accepted ts
+      → Did s job k (stripe_call job k n ts) own picture picture' answer job' → Worked s tape ws ws' picture picture' job k n answer job'
   unfolding work_call
   worked_on {ts = ts} e d =
       comes_to (ap (and_then (stripe_call job k n)) e)

@@ -5,6 +5,7 @@ use mathlib.Core.Path.{◌≡◌, refl}
 use contract.Lifetimes.{Lfts}
 use denote.Triple.Clauses.{AtExit}
 use borrow.Fn.Kinds.{Dens, ended_of}
+use Rattle.tape.specs.Answer.{outcome_of}
 use Rattle.job.specs.declared.JobAnswer.{JobAnswer}
 use Rattle.job.specs.Stripes.{division_of}
 use Rattle.job.specs.Worked.{Opened, Worked}
@@ -20,7 +21,7 @@ module _ (κs : Lfts 3) (a : Dens κs open-kinds.ps) where
 
   open_tells : (r : JobAnswer) (x : AtExit (ended_of 3 open-kinds.ps open-kinds.r) κs)
       → open-reads.Post κs a r x
-      ≡ Opened a.0 a.1.0.now a.1.1.0.now x.1.1.0.now a.1.1.1.0.now x.1.1.1.0.now (division_of a.1.1.1.1.0) r
+      ≡ Opened a.0 a.1.0.now a.1.1.0.now x.1.1.0.now a.1.1.1.0.now x.1.1.1.0.now (division_of a.1.1.1.1.0) (outcome_of r.answer) r.job
   open_tells r x = refl
 
 -- the same with the record, the stripe and the budget in place of the stripes
@@ -31,5 +32,5 @@ module _ (κs : Lfts 3) (a : Dens κs work-kinds.ps) where
   work_tells : (r : JobAnswer) (x : AtExit (ended_of 3 work-kinds.ps work-kinds.r) κs)
       → work-reads.Post κs a r x
       ≡ Worked a.0 a.1.0.now a.1.1.0.now x.1.1.0.now a.1.1.1.0.now x.1.1.1.0.now a.1.1.1.1.0
-      a.1.1.1.1.1.0 a.1.1.1.1.1.1.0 r
+      a.1.1.1.1.1.0 a.1.1.1.1.1.1.0 (outcome_of r.answer) r.job
   work_tells r x = refl

@@ -13,9 +13,8 @@ use borrow.Author.Tests.{le-ltb, eq-eqb, ne_eqb}
 use lib.Dec.{eqb, ltb}
 use lib.ListN.{length, take, drop, replicate, length-replicate}
 use lib.Seq.{take-add}
-use Rattle.tape.specs.declared.Answer.{Answer}
 use Rattle.tape.specs.Outcome.{Outcome, accepted, refused, refuse_if, on_accepted, and_then}
-use Rattle.tape.specs.Call.{answer_of, changed}
+use Rattle.tape.specs.Call.{changed}
 use Rattle.tape.specs.Tape.{least_room}
 use Rattle.tape.proofs.Calls.{accepts, happens, accepted_is}
 use Rattle.font.specs.Paint.{each_row}
@@ -30,7 +29,6 @@ use Rattle.compositor.proofs.ClearedPicture.{picture_drawn}
 use Rattle.compositor.proofs.AcceptedCalls.{cue_fits, cue_extra, cue_strokes, cue_again}
 use Rattle.job.specs.declared.Stripes.{Stripes}
 use Rattle.job.specs.declared.JobRecord.{JobRecord}
-use Rattle.job.specs.declared.JobAnswer.{JobAnswer}
 use Rattle.job.specs.Stripes.{Division, most_stripes, stripe_of, has_stripe, stripes_fault, division_of, stripes_with, new_record, counter_of, counters_unsound}
 use Rattle.job.specs.Work.{open_call, on_stripe, stepped, stripe_call, work_call}
 use Rattle.job.specs.History.{row_of, Entry, History, after_open, after_work, granted, budgets, count, due_of, AllDue, PartlyDrawn, Demand3, asked, Possible}
@@ -103,7 +101,7 @@ module _ (s : Settings) (d : Division) (ts : List Stroke) where
 
 -- ---- a history
 
-abbrev entry_of : ℕ → ℕ → ℕ → Answer → Entry
+abbrev entry_of : ℕ → ℕ → ℕ → Outcome ℕ → Entry
 entry_of k n room answer = record { stripe = k; budget = n; room = room; answer = answer }
 
 module _ (s : Settings) (tape : Tapes) (d : Division) (bytes : List ℕ) (ts : List Stroke) where
@@ -198,15 +196,15 @@ module _ (s : Settings) (tape : Tapes) (d : Division) (bytes : List ℕ) (ts : L
           by false = stripe_comes
 
       -- the history with it, by its answer
-      abbrev after : Answer → List Entry
+      abbrev after : Outcome ℕ → List Entry
       after answer = entry_of k n room answer ∷ entries
 
       -- and where it is accepted
       abbrev later : List Entry
-      later = after (Answer.Accepted (length strokes))
+      later = after (accepted (length strokes))
 
       -- a refused budget does not count
-      count_refused : (number j : ℕ) → count ts entries j ≡ count ts (after (Answer.Refused number 0)) j
+      count_refused : (number j : ℕ) → count ts entries j ≡ count ts (after (refused number 0)) j
       unfolding count
       count_refused number j = by (eqb k j)
         where
@@ -245,9 +243,9 @@ module _ (s : Settings) (tape : Tapes) (d : Division) (bytes : List ℕ) (ts : L
       leaves o = changed (stepped s job k picture) (picture, job) o
 
       abbrev Keeps : Outcome (List Stroke) → Type 0
-      Keeps o = Kept (after (answer_of (on_accepted length o))) (leaves o).0 (leaves o).1
+      Keeps o = Kept (after (on_accepted length o)) (leaves o).0 (leaves o).1
 
-      kept_refused : (number : ℕ) → Answer.Refused number 0 ≡ due_of ts d (entry_of k n room (Answer.Refused number 0)) entries → Keeps (refused number 0)
+      kept_refused : (number : ℕ) → refused number 0 ≡ due_of ts d (entry_of k n room (refused number 0)) entries → Keeps (refused number 0)
       unfolding AllDue
       kept_refused number due =
           record {
@@ -276,7 +274,7 @@ module _ (s : Settings) (tape : Tapes) (d : Division) (bytes : List ℕ) (ts : L
                 (λ j other. with_other job k c j other ∙ kept.counted j ∙ count_other j other);
             past =
                 λ j e. with_other job k c j (λ q. true≢false (sym there ∙ ap (has_stripe d) (sym q) ∙ e)) ∙ kept.past j e;
-            due = (rw (wide, there) (ap Answer.Accepted (omega (arith, count_here))), kept.due);
+            due = (rw (wide, there) (ap accepted (omega (arith, count_here))), kept.due);
           }
 
       kept_work : Keeps (work_call s room (length picture) tape job k n)
@@ -290,8 +288,8 @@ module _ (s : Settings) (tape : Tapes) (d : Division) (bytes : List ℕ) (ts : L
 module _ (s : Settings) (tape : Tapes) (d : Division) (bytes : List ℕ) where
   all_kept : {entries : List Entry} {picture : List ℕ} {job : JobRecord} → History s tape d bytes entries picture job
       → (ts : List Stroke) × Kept s tape d bytes ts entries picture job
-  all_kept (after_open {ws} total o e) =
-      let found = accepted_is o e in
+  all_kept (after_open {ws} total o) =
+      let found = accepted_is o refl in
       let ts = found.given in (
         ts,
         subst₂ (Kept s tape d bytes ts [])
@@ -303,7 +301,7 @@ module _ (s : Settings) (tape : Tapes) (d : Division) (bytes : List ℕ) where
       let found = all_kept before in
       let ts = found.0 in (
         ts,
-        subst₃ (λ (answer : Answer). Kept s tape d bytes ts (entry_of k n (length ws) answer ∷ entries))
+        subst₃ (λ (answer : Outcome ℕ). Kept s tape d bytes ts (entry_of k n (length ws) answer ∷ entries))
             (sym w.answers)
             (sym (ap (λ (x : List ℕ × JobRecord). x.0) w.changes))
             (sym (ap (λ (x : List ℕ × JobRecord). x.1) w.changes))
@@ -329,22 +327,19 @@ demand_3 s tape d bytes entries picture job history =
 pub possible : Possible
 possible s tape d bytes ws ts e wishes = go wishes
   where
-    first : JobAnswer
-    first = record { answer = Answer.Accepted (length ts); job = new_record d }
-
     go : (wishes : List (ℕ × ℕ × List ℕ)) → (entries : List Entry) × (picture : List ℕ) × (job : JobRecord)
         × History s tape d bytes entries picture job
         × (map asked entries ≡ map (λ w. (w.0, w.1, length w.2)) wishes)
-    go [] = ([], cleared s bytes, new_record d, after_open {ws = ws} {ws' = ws} {r = first} (length ts) (accepts e refl refl tt) refl, refl)
+    go [] = ([], cleared s bytes, new_record d, after_open {ws = ws} {ws' = ws} (length ts) (accepts e refl refl tt), refl)
     go (w ∷ rest) =
         let before = go rest in
         let o = work_call s (length w.2) (length before.1) tape before.2 w.0 w.1 in
         let x = changed (stepped s before.2 w.0 before.1) (before.1, before.2) o in
-        let r : JobAnswer = record { answer = answer_of (on_accepted length o); job = x.1 } in (
-          entry_of w.0 w.1 (length w.2) r.answer ∷ before.0,
+        let answer = on_accepted length o in (
+          entry_of w.0 w.1 (length w.2) answer ∷ before.0,
           x.0,
           x.1,
-          after_work {ws = w.2} {ws' = w.2} {r = r} w.0 w.1 before.3 (happens o (λ us. tt)),
+          after_work {ws = w.2} {ws' = w.2} w.0 w.1 before.3 (happens o (λ us. tt)),
           ap (λ (l : List (ℕ × ℕ × ℕ)). (w.0, w.1, length w.2) ∷ l) before.4,
         )
 

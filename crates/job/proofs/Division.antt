@@ -1,18 +1,18 @@
 -- Divisions and records: what the history leans on; where stripes lie, and what a sound record says of its counters.
 use mathlib.Core.Path.{◌≡◌, ◌∙◌, refl, sym, ap, subst}
 use mathlib.Core.Bool.{Bool, true, false, cond, not, ◌||◌}
-use mathlib.Core.List.{List, [], ◌∷◌, ◌++◌, append_assoc}
+use mathlib.Core.List.{List, [], ◌∷◌, ◌++◌, append_assoc, append-nil}
 use Prim.Native.Nat.{ℕ, zero, suc, ◌+◌, ◌-◌, ◌*◌, ◌≤◌, ◌<◌, min}
 use native.Mathlib.Nat.{add-zero, mul-le-mul_right, add-mul}
 use native.Mathlib.Numerals.{add-one}
 use native.Mathlib.Omega.{arith}
 use borrow.Author.Tests.{eq-eqb, ne_eqb, lt-ltb, le-ltb, ltb-true, ltb-false}
 use lib.Dec.{eqb, ltb}
-use lib.ListN.{length, get_or, take, drop, replicate, length-replicate, replicate-append-replicate, length-take, length-append, length-drop, length-set, drop_of_length-le}
-use lib.Seq.{paste, drop-cons, take-append_seam, take-append-le, drop_at, get_or-take, get_or-set_same, get_or-set_other}
+use lib.ListN.{length, get_or, take, drop, replicate, length-replicate, length-take, length-append, length-drop, length-set, drop_of_length-le}
+use lib.Seq.{paste, take_all, drop-cons, take-append_seam, take-append-le, get_or-take, get_or-set_same, get_or-set_other}
 use Rattle.font.specs.Paint.{each_row}
 use Rattle.font.proofs.RowLaws.{rows_skip, rows_front, rows_part}
-use Rattle.wrap.proofs.CallWrap.{or_none}
+use Rattle.std.proofs.lemmas.Bool.{or_parts}
 use Rattle.compositor.specs.declared.Settings.{Settings}
 use Rattle.compositor.specs.Settings.{row_bytes, picture_bytes}
 use Rattle.compositor.specs.Order.{Stroke}
@@ -101,21 +101,25 @@ module _ (given : Stripes) (long : length given.end_rows ≡ most_stripes) where
   pub end_entry : (k : ℕ) → k < length (division_of given) → end_row (division_of given) k ≡ get_or given.end_rows k 0
   end_entry k l = entry_at given k (omega (arith, division_length))
 
-  -- the entries that are used, copied to zeros
-  pub used_kept : length (division_of given) ≤ most_stripes → (n : ℕ) → n ≡ given.stripe_count
-      → record { stripe_count = given.stripe_count; end_rows = paste (replicate most_stripes 0) 0 given.end_rows n } ≡ stripes_with (division_of given)
-  unfolding stripes_with division_of
-  used_kept few n e =
+  -- the entries that are used
+  pub entries_used : length (division_of given) ≤ most_stripes → take given.stripe_count given.end_rows ≡ division_of given
+  unfolding division_of
+  entries_used few =
       let count = all_counted few in
-      let low : n ≤ most_stripes = omega arith in
-      let used : take n given.end_rows ≡ division_of given = rw e (sym (take-append-le given.stripe_count given.end_rows (0 ∷ []) (omega arith))) in
-      let none : 0 + n ≡ n = omega arith in
-      let sum : n + (most_stripes - n) ≡ most_stripes = omega arith in
-      let zeros : drop {A = ℕ} n (replicate most_stripes 0) ≡ replicate (most_stripes - n) 0 =
-      ap (λ (m : ℕ). drop {A = ℕ} n (replicate m 0)) (sym sum)
-      ∙ ap (drop n) (sym (replicate-append-replicate n (most_stripes - n) 0))
-      ∙ drop_at (replicate n 0) (replicate (most_stripes - n) 0) n (length-replicate n 0) in
-      rw (none, zeros, used, count, e) refl
+      sym (take-append-le given.stripe_count given.end_rows (0 ∷ []) (omega arith))
+
+  -- the entries, with zeros over those that are not used
+  pub used_kept : length (division_of given) ≤ most_stripes →
+      let n = given.stripe_count in
+      let zeros : List ℕ = replicate (most_stripes - n) 0 in
+      record { stripe_count = n; end_rows = paste given.end_rows n zeros (most_stripes - n) } ≡ stripes_with (division_of given)
+  unfolding stripes_with
+  used_kept few =
+      let n = given.stripe_count in
+      let zeros : List ℕ = replicate (most_stripes - n) 0 in
+      let count = all_counted few in
+      let whole = take_all (most_stripes - n) zeros (omega (arith, length-replicate {A = ℕ} (most_stripes - n) 0)) in
+      rw (whole, drop_of_length-le given.end_rows {i = n + (most_stripes - n)} (omega arith), append-nil {A = ℕ}, entries_used few, count) refl
 
 -- the first row of a stripe is the end of the stripe before it
 pub first_after : (d : Division) (k : ℕ) → (k ≡ 0 → ⊥) → first_row d k ≡ end_row d (k - 1)
@@ -190,11 +194,11 @@ module _ (d : Division) (total : ℕ) where
   counter_sound j [] i e l = absurd (omega arith)
   counter_sound j (c ∷ cs) zero e l =
       let at : j + 0 ≡ j = omega arith in
-      rw at (or_none (ltb (cond (has_stripe d j) total 0) c) (counters_unsound d total (suc j) cs) e).0
+      rw at (or_parts (ltb (cond (has_stripe d j) total 0) c) (counters_unsound d total (suc j) cs) e).0
   counter_sound j (c ∷ cs) (suc i) e l =
       let at : j + suc i ≡ suc j + i = omega arith in
       rw at
-      (counter_sound (suc j) cs i (or_none (ltb (cond (has_stripe d j) total 0) c) (counters_unsound d total (suc j) cs) e).1 (omega arith))
+      (counter_sound (suc j) cs i (or_parts (ltb (cond (has_stripe d j) total 0) c) (counters_unsound d total (suc j) cs) e).1 (omega arith))
 
   pub counter_small : (cs : List ℕ) (k : ℕ) → counters_unsound d total 0 cs ≡ false → k < length cs → has_stripe d k ≡ true → get_or cs k 0 ≤ total
   counter_small cs k e l there =

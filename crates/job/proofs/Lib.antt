@@ -1,7 +1,6 @@
 -- Laws of divisions and records; what the calls come to; demand 3, and that it is said of the very contracts; cases.
 pub mod Rising  -- ends that rise: where their stripes lie, and which stripe a row is of
 pub mod Division  -- divisions and records: where stripes lie, and what a sound record says
-pub mod Copies  -- a loop that copies numbers
 pub mod CallWork  -- what a step, and a call of Work, comes to
 pub mod Answers  -- for the layers above: how far the outcomes of the calls go
 pub mod Demand3  -- demand 3; that there is a history of every list of calls; and its end

@@ -2,8 +2,7 @@
 -- among them. `Demand3`, near the end, is the claim, and it is proved; so is `Possible`, that the claim is never empty.
 -- Calls are told by the records that are the contracts of Open and Work. Definitions only.
 use Rattle.std.specs.Prelude.{◌≡◌, false, cond, List, [], ◌∷◌, map, ℕ, ◌+◌, ◌-◌, ◌*◌, ◌<◌, min, length, take, drop, nat_lt, ◌==◌}
-use Rattle.tape.specs.declared.Answer.{Answer}
-use Rattle.tape.specs.Outcome.{accepted}
+use Rattle.tape.specs.Outcome.{Outcome, accepted, refused}
 use Rattle.tape.specs.Tape.{least_room}
 use Rattle.compositor.specs.declared.Settings.{Settings}
 use Rattle.compositor.specs.Settings.{row_bytes, picture_bytes}
@@ -11,7 +10,6 @@ use Rattle.compositor.specs.Order.{Stroke}
 use Rattle.compositor.specs.Picture.{row_after}
 use Rattle.compositor.specs.Draw.{Tapes, tape_strokes}
 use Rattle.job.specs.declared.JobRecord.{JobRecord}
-use Rattle.job.specs.declared.JobAnswer.{JobAnswer}
 use Rattle.job.specs.Stripes.{Division, most_stripes, stripe_of, has_stripe, stripes_with, counter_of}
 use Rattle.job.specs.Work.{open_call}
 use Rattle.job.specs.Worked.{Opened, Worked}
@@ -24,24 +22,24 @@ pub record Entry : Type 0 where
   pub stripe : ℕ
   pub budget : ℕ
   pub room : ℕ
-  pub answer : Answer
+  pub answer : Outcome ℕ
 
 -- An accepted Open, with a division d, on a picture's buffer that held `bytes`, and then calls of Work, the latest
 -- first, with the picture's buffer and the record as they are after them. Each Work gets both as the call before it
 -- left them, and Open's settings and tape; its stripe, its budget and its workspace are any.
 pub data History (s : Settings) (tape : Tapes) (d : Division) (bytes : List ℕ) : List Entry → List ℕ → JobRecord → Type 0 where
-  after_open : {ws ws' picture : List ℕ} {r : JobAnswer} (total : ℕ) → Opened s tape ws ws' bytes picture d r → r.answer ≡ Answer.Accepted total
-      → History s tape d bytes [] picture r.job
-  after_work : {entries : List Entry} {ws ws' picture picture' : List ℕ} {job : JobRecord} {r : JobAnswer} (k n : ℕ)
-      → History s tape d bytes entries picture job → Worked s tape ws ws' picture picture' job k n r
-      → History s tape d bytes (record { stripe = k; budget = n; room = length ws; answer = r.answer } ∷ entries) picture' r.job
+  after_open : {ws ws' picture : List ℕ} {job : JobRecord} (total : ℕ) → Opened s tape ws ws' bytes picture d (accepted total) job
+      → History s tape d bytes [] picture job
+  after_work : {entries : List Entry} {ws ws' picture picture' : List ℕ} {job job' : JobRecord} {answer : Outcome ℕ} (k n : ℕ)
+      → History s tape d bytes entries picture job → Worked s tape ws ws' picture picture' job k n answer job'
+      → History s tape d bytes (record { stripe = k; budget = n; room = length ws; answer = answer } ∷ entries) picture' job'
 
 -- ---- what its calls count
 
 -- a budget n counts where its call was accepted
-abbrev pub granted : ℕ → Answer → ℕ
-granted n (Answer.Accepted m) = n
-granted n (Answer.Refused number place) = 0
+abbrev pub granted : ℕ → Outcome ℕ → ℕ
+granted n (accepted m) = n
+granted n (refused number place) = 0
 
 -- c of stripe k, call by call: each call on the stripe raises it by the budget, if that was accepted, and never past T
 unfoldable pub count : List Stroke → List Entry → ℕ → ℕ
@@ -55,11 +53,11 @@ budgets k [] = 0
 budgets k (entry ∷ entries) = cond (entry.stripe == k) (granted entry.budget entry.answer) 0 + budgets k entries
 
 -- what is due of a call after others: 11, 12, or by how much it raised its stripe's c
-abbrev pub due_of : List Stroke → Division → Entry → List Entry → Answer
+abbrev pub due_of : List Stroke → Division → Entry → List Entry → Outcome ℕ
 due_of ts d entry before =
-    cond (nat_lt entry.room least_room) (Answer.Refused 11 0)
-    (cond (has_stripe d entry.stripe) (Answer.Accepted (count ts (entry ∷ before) entry.stripe - count ts before entry.stripe))
-    (Answer.Refused 12 0))
+    cond (nat_lt entry.room least_room) (refused 11 0)
+    (cond (has_stripe d entry.stripe) (accepted (count ts (entry ∷ before) entry.stripe - count ts before entry.stripe))
+    (refused 12 0))
 
 -- each call answered what was due
 unfoldable pub AllDue : List Stroke → Division → List Entry → Type 0

@@ -1,21 +1,25 @@
 // A picture drawn in stripes, by calls that each do some of the strokes of one stripe.
 // What a job has done so far is in its record, by value: the calls keep nothing. `ws` is the workspace
-// throughout.
+// throughout. A call's parameters are document 01's, and are handed on as they are.
 #![tactic(auto)]
 
 mod stripe;
 
 ghost use Rattle.std.specs.Prelude.{◌≡◌, ◌≤◌, min, length};
 ghost use Rattle.tape.specs.Outcome.{accepted};
+ghost use Rattle.tape.specs.Answer.{outcome_of};
+ghost use Rattle.compositor.specs.Checked.{CueRead};
 ghost use Rattle.compositor.specs.Read.{strokes_in};
 ghost use Rattle.job.specs.Stripes.{most_stripes, division_of, stripes_with, new_record, no_record, counters_unsound};
-ghost use Rattle.job.specs.Work.{step_strokes, stripe_call};
+ghost use Rattle.job.specs.Work.{open_call, step_strokes, stripe_call};
 ghost use Rattle.job.specs.Worked.{Opened, Worked};
 ghost use Rattle.job.specs.Ready.{Workable, Steppable, Did};
 
 use compositor::strokes::Window;
-use compositor::{Cue, Settings};
-use tape::Answer;
+use compositor::{Laid, Settings};
+use tape::{Answer, Cause, Refusal};
+
+// A count beside 64 numbers, and a record by value: document 01 and the C interface have both so.
 
 // How a picture is divided into stripes, from the top: how many there are, and the end row of each,
 // which is the first row below it. Those from the count on are not read.
@@ -32,7 +36,7 @@ pub struct JobRecord {
     pub counters: [u32; 64],
 }
 
-// What a call of `open` or `work` gives.
+// What a call of `open` or `work` gives: a refusal has a record too (`Opened`, `Worked`).
 #[derive(Clone, Copy)]
 pub struct JobAnswer {
     pub answer: Answer,
@@ -45,16 +49,11 @@ impl Stripes {
         requires { length (division_of self) ≤ most_stripes }
         ensures { result ≡ stripes_with (division_of self) }
     {
-        let count = self.stripe_count as usize;
-        let mut ends = [0; 64];
-        let mut k = 0;
-        while k < count {
-            ends[k] = self.end_rows[k];
-            k += 1;
-        }
+        let mut ends = self.end_rows;
+        ends[self.stripe_count as usize..].fill(0);
         Stripes {
-            stripe_count: self.stripe_count,
             end_rows: ends,
+            ..self
         }
     }
 }
@@ -65,14 +64,14 @@ impl JobRecord {
         requires { length (division_of given) ≤ most_stripes }
         ensures { result ≡ new_record (division_of given) }
     {
-        let stripes = given.used();
         JobRecord {
-            stripes,
+            stripes: given.used(),
             counters: [0; 64],
         }
     }
 
     // All zeros.
+    #[tactic(auto, unfolding(crate::specs::Stripes::stripes_with))]
     fn none() -> JobRecord
         ensures { result ≡ no_record }
     {
@@ -91,18 +90,29 @@ impl JobRecord {
         requires { length (division_of self.stripes) ≤ most_stripes }
         ensures { result ≡ counters_unsound (division_of self.stripes) total 0 self.counters }
     {
-        let stripes = self.stripes;
-        let count = stripes.stripe_count as usize;
-        let mut k = 0;
-        while k < stripe::MOST_STRIPES {
-            let most = stripe::most_counted(count, k, total);
-            if most < self.counters[k] as usize {
+        let count = self.stripes.stripe_count as usize;
+        for (k, &counter) in self.counters.iter().enumerate() {
+            if stripe::most_counted(count, k, total) < counter as usize {
                 return true;
             }
-            k += 1;
         }
         false
     }
+}
+
+// Checks what every call of a job checks, and reads its tape.
+fn read_cue(
+    s: Settings,
+    tape: &[u8],
+    ws: &mut [u8],
+    size: usize,
+    stripes: Stripes,
+) -> Result<Laid, Refusal>
+    ensures { CueRead s (open_call s (length ws.old) size tape.now (division_of stripes)) ws.old ws.new result }
+{
+    let layout = compositor::check(s, tape, ws.len(), size)?;
+    stripe::check(s, stripes)?;
+    compositor::lay_cue(layout, tape, ws)
 }
 
 // The call Open: zeroes the picture, and gives the record of a job that has done nothing yet. The
@@ -115,95 +125,89 @@ pub fn open(
     stripes: Stripes,
 ) -> JobAnswer
     ensures { Opened s tape.now ws.old ws.new
-        picture.old picture.new (division_of stripes) result }
+        picture.old picture.new (division_of stripes) (outcome_of result.answer) result.job }
 {
-    let fault = stripe::fault(s, stripes);
-    match compositor::read_cue(s, tape, ws, picture.len(), fault) {
-        Cue::Laid(_, total) => {
-            let size = s.picture_bytes();
-            compositor::clear(picture, size);
+    match read_cue(s, tape, ws, picture.len(), stripes) {
+        Ok(laid) => {
+            compositor::clear(picture, laid.layout.picture_bytes());
             JobAnswer {
-                answer: Answer::Accepted(total),
+                answer: Ok(laid.strokes),
                 job: JobRecord::new(stripes),
             }
         }
-        Cue::Refused(number, place) => JobAnswer {
-            answer: Answer::Refused(number, place),
+        Err(refusal) => JobAnswer {
+            answer: Err(refusal),
             job: JobRecord::none(),
         },
     }
 }
 
-fn least(a: usize, b: usize) -> usize
-    ensures { result ≡ min a b }
-{
-    if a < b { a } else { b }
-}
-
 // A step on a stripe that is there: does as many strokes as the budget has, or as are left, and counts
 // them.
 fn step(
-    s: Settings,
+    laid: Laid,
     ws: &[u8],
-    lines: usize,
-    total: usize,
     picture: &mut [u8],
-    job: JobRecord,
+    job: &mut JobRecord,
     k: usize,
     budget: u32,
-) -> JobAnswer
-    requires { Steppable s ws.now (length picture.old) job k lines total }
-    ensures { Did s job k (accepted (step_strokes job k budget (strokes_in s ws.now lines)))
-        ws.now picture.old picture.new result }
+) -> usize
+    requires { Steppable ws.now (length picture.old) job.old k laid }
+    ensures { Did laid.layout.settings job.old k
+        (accepted (step_strokes job.old k budget (strokes_in laid.layout.settings ws.now laid.lines)))
+        ws.now picture.old picture.new (accepted result) job.new }
 {
     let done = job.counters[k] as usize;
-    let m = least(budget as usize, total - done);
+    let m = (budget as usize).min(laid.strokes - done);
     let window = Window {
         from: done,
         to: done + m,
     };
-    let stripes = job.stripes;
-    stripe::draw_stripe(s, ws, lines, picture, stripes, k, window);
-    let mut after = job;
-    after.counters[k] = (done + m) as u32;
-    JobAnswer {
-        answer: Answer::Accepted(m),
-        job: after,
-    }
+    stripe::draw_stripe(laid, ws, picture, job.stripes, k, window);
+    job.counters[k] = (done + m) as u32;
+    m
 }
 
 // Work where the caption lies in the workspace: the test of the record, the test of the stripe, and a
 // step.
 fn work_laid(
-    s: Settings,
+    laid: Laid,
     ws: &[u8],
-    lines: usize,
-    total: usize,
     picture: &mut [u8],
-    job: JobRecord,
+    job: &mut JobRecord,
     stripe: u32,
     budget: u32,
-) -> JobAnswer
-    requires { Workable s ws.now (length picture.old) job lines total }
-    ensures { Did s job stripe (stripe_call job stripe budget (strokes_in s ws.now lines))
-        ws.now picture.old picture.new result }
+) -> Answer
+    requires { Workable ws.now (length picture.old) job.old laid }
+    ensures { Did laid.layout.settings job.old stripe
+        (stripe_call job.old stripe budget (strokes_in laid.layout.settings ws.now laid.lines))
+        ws.now picture.old picture.new (outcome_of result) job.new }
 {
-    if job.is_unsound(total) {
-        return JobAnswer {
-            answer: Answer::Refused(14, 0),
-            job,
-        };
+    if job.is_unsound(laid.strokes) {
+        return Err(Cause::CountersUnsound.at(0));
     }
-    let k = stripe as usize;
-    let stripes = job.stripes;
-    let count = stripes.stripe_count;
+    let count = job.stripes.stripe_count;
     if count <= stripe {
-        return JobAnswer {
-            answer: Answer::Refused(12, 0),
-            job,
-        };
+        return Err(Cause::NoSuchStripe.at(0));
     }
-    step(s, ws, lines, total, picture, job, k, budget)
+    Ok(step(laid, ws, picture, job, stripe as usize, budget))
+}
+
+// Work on a record where it lies. A refusal leaves it.
+fn work_on(
+    s: Settings,
+    tape: &[u8],
+    ws: &mut [u8],
+    picture: &mut [u8],
+    job: &mut JobRecord,
+    stripe: u32,
+    budget: u32,
+) -> Answer
+    ensures { Worked s tape.now ws.old ws.new
+        picture.old picture.new job.old stripe budget (outcome_of result) job.new }
+{
+    let laid = read_cue(s, tape, ws, picture.len(), job.stripes)?;
+    work_laid(laid, ws, picture, job, stripe, budget)
 }
 
 // The call Work: does as many strokes as the budget has, or as are left, on the rows of a stripe, and
@@ -219,15 +223,9 @@ pub fn work(
     budget: u32,
 ) -> JobAnswer
     ensures { Worked s tape.now ws.old ws.new
-        picture.old picture.new job stripe budget result }
+        picture.old picture.new job stripe budget (outcome_of result.answer) result.job }
 {
-    let stripes = job.stripes;
-    let fault = stripe::fault(s, stripes);
-    match compositor::read_cue(s, tape, ws, picture.len(), fault) {
-        Cue::Laid(lines, total) => work_laid(s, ws, lines, total, picture, job, stripe, budget),
-        Cue::Refused(number, place) => JobAnswer {
-            answer: Answer::Refused(number, place),
-            job,
-        },
-    }
+    let mut after = job;
+    let answer = work_on(s, tape, ws, picture, &mut after, stripe, budget);
+    JobAnswer { answer, job: after }
 }

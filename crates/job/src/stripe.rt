@@ -3,37 +3,39 @@ ghost use Rattle.std.specs.Prelude.{◌≡◌, true, cond, ◌≤◌, length, na
 ghost use Rattle.compositor.specs.Settings.{picture_bytes};
 ghost use Rattle.compositor.specs.Read.{strokes_in};
 ghost use Rattle.compositor.specs.Painting.{cut};
-ghost use Rattle.compositor.specs.Ready.{InRange, Lined};
+ghost use Rattle.compositor.specs.Ready.{Lined};
+ghost use Rattle.tape.specs.Outcome.{accepted, unless};
+ghost use Rattle.tape.specs.Answer.{outcome_of};
 ghost use Rattle.job.specs.Stripes.{first_row, has_stripe, stripes_fault, division_of};
 ghost use Rattle.job.specs.Work.{on_stripe};
 
 use crate::Stripes;
 use compositor::strokes::Window;
-use compositor::{Settings, strokes};
+use compositor::{Laid, Settings, strokes};
 use font::Rows;
+use tape::{Cause, Refusal};
 
 pub const MOST_STRIPES: usize = 64;
 
-// 13 where stripes are too many, or their ends do not rise from the picture's first row to its height;
-// else 0.
-pub fn fault(s: Settings, stripes: Stripes) -> u8
-    ensures { result ≡ stripes_fault s (division_of stripes) }
+// Refuses stripes that are too many, or whose ends do not rise from the picture's first row to its height.
+pub fn check(s: Settings, stripes: Stripes) -> Result<(), Refusal>
+    ensures { outcome_of result ≡ unless (stripes_fault s (division_of stripes)) 0 (accepted tt) }
 {
     let count = stripes.stripe_count as usize;
     if MOST_STRIPES < count {
-        return 13;
+        return Err(Cause::StripesUnfit.at(0));
     }
     let mut row = 0;
-    let mut k = 0;
-    while k < count {
-        let end = stripes.end_rows[k];
+    for &end in &stripes.end_rows[..count] {
         if end <= row {
-            return 13;
+            return Err(Cause::StripesUnfit.at(0));
         }
         row = end;
-        k += 1;
     }
-    if row == s.height { 0 } else { 13 }
+    if row != s.height {
+        return Err(Cause::StripesUnfit.at(0));
+    }
+    Ok(())
 }
 
 // The most strokes that a sound counter of stripe k says, of so many stripes.
@@ -57,23 +59,24 @@ fn first_row(stripes: Stripes, k: usize) -> usize
 // Draws strokes of the caption that lies in the workspace on the rows of stripe k. The rows are lent,
 // so that no other can be reached.
 pub fn draw_stripe(
-    s: Settings,
+    laid: Laid,
     ws: &[u8],
-    lines: usize,
     picture: &mut [u8],
     stripes: Stripes,
     k: usize,
     window: Window,
 )
-    requires { InRange s × (picture_bytes s ≤ length picture.old) × Lined ws.now lines
-        × (stripes_fault s (division_of stripes) ≡ 0) × (has_stripe (division_of stripes) k ≡ true) }
+    requires { (picture_bytes laid.layout.settings ≤ length picture.old) × Lined ws.now laid.lines
+        × (stripes_fault laid.layout.settings (division_of stripes) ≡ 0)
+        × (has_stripe (division_of stripes) k ≡ true) }
     ensures { picture.new
-        ≡ on_stripe s (division_of stripes) k (cut window (strokes_in s ws.now lines)) picture.old }
+        ≡ on_stripe laid.layout.settings (division_of stripes) k
+        (cut window (strokes_in laid.layout.settings ws.now laid.lines)) picture.old }
 {
     let first = first_row(stripes, k);
     let end = stripes.end_rows[k] as usize;
     let count = end - first;
-    let width = s.width as usize;
+    let width = laid.layout.settings.width as usize;
     let from = first * (4 * width);
     let to = end * (4 * width);
     let rows = Rows {
@@ -81,5 +84,6 @@ pub fn draw_stripe(
         count,
         first,
     };
-    strokes::draw_lines(&mut picture[from..to], rows, ws, s, lines, window);
+    let part = &mut picture[from..to];
+    strokes::draw_lines(part, rows, ws, laid.layout, laid.lines, window);
 }

@@ -6,60 +6,38 @@
 // holds the reader to the original.
 #![tactic(auto)]
 
-ghost use Rattle.std.specs.Prelude.{◌+◌, ◌≤◌, ◌<◌, length};
-
+use report::{Entries, SampleError};
 use std::io;
-use tape::{Answer, Style};
-
-// One byte more than a sample may have, so that a longer one is seen to be too long.
-const ROOM: usize = 65536;
-
-fn print_letters(rt: &impl Print, count: usize, letters: &[u8]) -> io::Result<()> {
-    report::write_digest(rt, count, report::digest(0, letters))
-}
+use std::io::Read;
+use tape::Style;
 
 // Reads one tape.
 fn print_tape(rt: &impl Print, tape: &[u8], workspace: &mut [u8]) -> io::Result<()> {
     match tape::read_tape(tape, workspace, Style::default_with([255; 4])) {
-        Answer::Accepted(count) => print_letters(rt, count, &workspace[0..8 * count]),
-        Answer::Refused(number, place) => report::write_refusal(rt, number, place),
-    }
-}
-
-// Where the tape ends whose length stands at a place; past the tapes' end where it is cut short.
-fn tape_end(tapes: &[u8], at: usize) -> usize
-    requires { at < length tapes.now }
-    ensures { result ≤ length tapes.now → at + 2 ≤ result }
-{
-    if tapes.len() - at < 2 {
-        return tapes.len() + 1;
-    }
-    at + 2 + report::number_at(tapes, at)
-}
-
-// Reads tape after tape; false where the sample is cut short.
-fn replay(rt: &impl Print, tapes: &[u8], workspace: &mut [u8]) -> io::Result<bool> {
-    let mut at = 0;
-    while at < tapes.len() {
-        let end = tape_end(tapes, at);
-        if tapes.len() < end {
-            return Ok(false);
+        Ok(count) => {
+            let digest = report::digest(0, &workspace[..8 * count]);
+            println!(rt; "{count} {digest:08x}")
         }
-        print_tape(rt, &tapes[at + 2..end], workspace)?;
-        at = end;
+        Err(refusal) => println!(rt; "{refusal}"),
     }
-    Ok(true)
+}
+
+// Reads tape after tape of the sample that the input has.
+fn replay(
+    rt: &impl Print,
+    input: &mut impl Read,
+    room: &mut [u8; report::ROOM],
+    workspace: &mut [u8],
+) -> Result<(), SampleError> {
+    for entry in Entries::<2>::new(report::read_sample(input, room)?) {
+        print_tape(rt, entry?.body, workspace)?;
+    }
+    Ok(())
 }
 
 fn main(rt: HostRuntime) -> io::Result<()> {
-    let mut tapes = [0; ROOM];
-    let mut workspace = [0; ROOM];
-    let end = report::read_full(&mut rt.stdin(), &mut tapes)?;
-    if end == tapes.len() {
-        return report::write(&rt, b"the sample has more than 65,535 bytes\n");
-    }
-    if !replay(&rt, &tapes[0..end], &mut workspace)? {
-        return report::write(&rt, b"the sample is cut short\n");
-    }
-    Ok(())
+    let mut room = [0; report::ROOM];
+    let mut workspace = [0; report::ROOM];
+    let replayed = replay(&rt, &mut rt.stdin(), &mut room, &mut workspace);
+    report::finish(&rt, replayed)
 }

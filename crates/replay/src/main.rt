@@ -15,15 +15,15 @@
 // run of the gate holds drawing, in one call and in many, to the original.
 #![tactic(auto)]
 
-ghost use Rattle.std.specs.Prelude.{◌+◌, ◌≤◌, ◌<◌, length};
+ghost use Rattle.std.specs.Prelude.{◌≡◌, ◌+◌, ◌≤◌, length, take, drop};
+ghost use Rattle.std.specs.Int.{w32, from_be_bytes};
 
 use compositor::Settings;
-use job::{JobRecord, Stripes};
+use job::Stripes;
+use report::{Entries, Entry, SampleError};
 use std::io;
+use std::io::Read;
 use tape::Answer;
-
-// One byte more than a sample may have, so that a longer one is seen to be too long.
-const ROOM: usize = 65536;
 
 // The bytes of an entry before its end rows.
 const HEADER: usize = 44;
@@ -31,95 +31,56 @@ const HEADER: usize = 44;
 // The bytes of a Work.
 const WORK: usize = 5;
 
-// The number in four bytes at a place, high byte first.
+// The number in four bytes at a place, high byte first. `report::number_at` does it for two: the library
+// has no trait of numbers in their bytes.
 fn long_at(bytes: &[u8], at: usize) -> u32
     requires { at + 4 ≤ length bytes.now }
+    ensures { result ≡ from_be_bytes w32 (take 4 (drop at bytes.now)) }
 {
-    (report::number_at(bytes, at) * 65536 + report::number_at(bytes, at + 2)) as u32
+    u32::from_be_bytes(report::array_at(bytes, at))
 }
 
-fn color_at(bytes: &[u8], at: usize) -> [u8; 4]
-    requires { at + 4 ≤ length bytes.now }
-{
-    [bytes[at], bytes[at + 1], bytes[at + 2], bytes[at + 3]]
-}
-
-fn settings(entry: &[u8]) -> Settings
-    requires { 44 ≤ length entry.now }
-{
-    let own = color_at(entry, 4);
-    let around = color_at(entry, 8);
-    let slant_and_cap = report::number_at(entry, 34);
+fn settings(header: &[u8; HEADER]) -> Settings {
     Settings {
-        width: report::number_at(entry, 0) as u32,
-        height: report::number_at(entry, 2) as u32,
-        default_color: own,
-        outline_color: around,
-        line_height_px: long_at(entry, 12),
-        bottom_margin_px: long_at(entry, 16),
-        outline_px: long_at(entry, 20),
-        align: long_at(entry, 24),
-        glyph_mode: long_at(entry, 28),
-        side_margin_px: report::number_at(entry, 32) as u32,
-        slant: (slant_and_cap / 256) as u32,
-        outline_cap_px: (slant_and_cap % 256) as u32,
+        width: report::number_at(header, 0) as u32,
+        height: report::number_at(header, 2) as u32,
+        default_color: report::array_at(header, 4),
+        outline_color: report::array_at(header, 8),
+        line_height_px: long_at(header, 12),
+        bottom_margin_px: long_at(header, 16),
+        outline_px: long_at(header, 20),
+        align: long_at(header, 24),
+        glyph_mode: long_at(header, 28),
+        side_margin_px: report::number_at(header, 32) as u32,
+        slant: header[34] as u32,
+        outline_cap_px: header[35] as u32,
     }
 }
 
-fn fill(picture: &mut [u8], size: usize)
-    requires { size ≤ length picture.old }
-{
-    let mut i = 0;
-    while i < size {
-        picture[i] = 0x5a;
-        i += 1;
+// So many stripes; the end rows that are not written are 0.
+fn stripes(count: u8, written: &[u8]) -> Stripes {
+    let mut end_rows = [0; 64];
+    for (end_row, bytes) in end_rows.iter_mut().zip(written.as_chunks::<2>().0) {
+        *end_row = u16::from_be_bytes(*bytes) as u32;
+    }
+    Stripes {
+        stripe_count: count as u32,
+        end_rows,
     }
 }
 
 fn write_answer(rt: &impl Print, answer: Answer, picture: &[u8]) -> io::Result<()> {
     match answer {
-        Answer::Accepted(strokes) => report::write_digest(rt, strokes, report::digest(0, picture)),
-        Answer::Refused(number, place) => report::write_refusal(rt, number, place),
+        Ok(strokes) => {
+            let digest = report::digest(0, picture);
+            println!(rt; "{strokes} {digest:08x}")
+        }
+        Err(refusal) => println!(rt; "{refusal}"),
     }
 }
 
-fn draw(
-    rt: &impl Print,
-    s: Settings,
-    tape: &[u8],
-    workspace: &mut [u8],
-    picture: &mut [u8],
-) -> io::Result<()> {
-    let answer = compositor::render_into(s, tape, workspace, picture);
-    write_answer(rt, answer, picture)
-}
-
-// Does the Works of a job that was opened, each on what the call before it left.
-fn work(
-    rt: &impl Print,
-    s: Settings,
-    works: &[u8],
-    tape: &[u8],
-    workspace: &mut [u8],
-    picture: &mut [u8],
-    opened: JobRecord,
-) -> io::Result<()> {
-    let mut record = opened;
-    let mut at = 0;
-    while WORK <= works.len() - at {
-        let stripe = works[at] as u32;
-        let budget = long_at(works, at + 1);
-        let done = job::work(s, tape, workspace, picture, record, stripe, budget);
-        let answer = done.answer;
-        write_answer(rt, answer, picture)?;
-        record = done.job;
-        at += WORK;
-    }
-    Ok(())
-}
-
-// Opens a job, and does its Works where that is not refused.
-fn open(
+// Opens a job, and does its Works where that is not refused, each on what the call before it left.
+fn work_through(
     rt: &impl Print,
     s: Settings,
     stripes: Stripes,
@@ -129,121 +90,73 @@ fn open(
     picture: &mut [u8],
 ) -> io::Result<()> {
     let opened = job::open(s, tape, workspace, picture, stripes);
-    let answer = opened.answer;
-    write_answer(rt, answer, picture)?;
-    let record = opened.job;
-    match answer {
-        Answer::Accepted(_) => work(rt, s, works, tape, workspace, picture, record),
-        Answer::Refused(_, _) => Ok(()),
+    write_answer(rt, opened.answer, picture)?;
+    if opened.answer.is_err() {
+        return Ok(());
     }
+    let mut record = opened.job;
+    for work in works.as_chunks::<WORK>().0 {
+        let stripe = work[0] as u32;
+        let budget = long_at(work, 1);
+        let done = job::work(s, tape, workspace, picture, record, stripe, budget);
+        write_answer(rt, done.answer, picture)?;
+        record = done.job;
+    }
+    Ok(())
 }
 
-// Where the Works of an entry are due: behind its header and its end rows.
-fn works_start(entry: &[u8]) -> usize
-    requires { 44 ≤ length entry.now }
-    ensures { (44 ≤ result) × (result < 65536) }
-{
-    HEADER + 2 * (report::number_at(entry, 36) % 256)
-}
-
-// Where the tape of an entry is due: behind its Works.
-fn tape_start(entry: &[u8], works: usize) -> usize
-    requires { (44 ≤ length entry.now) × (works < 65536) }
-    ensures { works ≤ result }
-{
-    let calls = report::number_at(entry, 38);
-    if calls == 0 {
-        return works;
-    }
-    works + WORK * (calls - 1)
-}
-
-// The stripes of an entry whose Works begin at a place. The end rows that are not written are 0.
-fn stripes(entry: &[u8], works: usize) -> Stripes
-    requires { (44 ≤ works) × (works ≤ length entry.now) }
-{
-    let written = (works - HEADER) / 2;
-    let mut ends = [0; 64];
-    let mut k = 0;
-    while k < 64 {
-        if k < written {
-            ends[k] = report::number_at(entry, HEADER + 2 * k) as u32;
-        }
-        k += 1;
-    }
-    let count = (report::number_at(entry, 36) / 256) as u32;
-    Stripes {
-        stripe_count: count,
-        end_rows: ends,
-    }
-}
-
-// Makes the calls of one entry, whose Works begin at a place and whose tape begins at another.
+// Makes the calls of one entry.
 fn print_calls(
     rt: &impl Print,
-    entry: &[u8],
-    works: usize,
-    start: usize,
+    entry: Entry<'_, HEADER>,
     workspace: &mut [u8],
-    picture: &mut [u8],
-) -> io::Result<()>
-    requires { (44 ≤ works) × (works ≤ start) × (start ≤ length entry.now) × (65535 ≤ length picture.old) }
-{
-    let s = settings(entry);
-    let size = report::number_at(entry, 40);
-    fill(picture, size);
-    let tape = &entry[start..entry.len()];
-    if report::number_at(entry, 38) == 0 {
-        return draw(rt, s, tape, workspace, &mut picture[0..size]);
+    picture: &mut [u8; report::ROOM],
+) -> Result<(), SampleError> {
+    let Entry { header, body } = entry;
+    let calls = report::number_at(header, 38) as usize;
+    let (written, behind) = body
+        .split_at_checked(2 * header[37] as usize)
+        .ok_or(SampleError::CutShort)?;
+    let (works, tape) = behind
+        .split_at_checked(WORK * calls.saturating_sub(1))
+        .ok_or(SampleError::CutShort)?;
+    let s = settings(header);
+    let picture = &mut picture[..report::number_at(header, 40) as usize];
+    picture.fill(0x5a);
+    if calls == 0 {
+        let answer = compositor::render_into(s, tape, workspace, picture);
+        write_answer(rt, answer, picture)?;
+    } else {
+        let stripes = stripes(header[36], written);
+        work_through(rt, s, stripes, works, tape, workspace, picture)?;
     }
-    open(
-        rt,
-        s,
-        stripes(entry, works),
-        &entry[works..start],
-        tape,
-        workspace,
-        &mut picture[0..size],
-    )
+    Ok(())
 }
 
-// Makes the calls of entry after entry; false where the sample is cut short.
+// Makes the calls of entry after entry of the sample that the input has.
 fn replay(
     rt: &impl Print,
-    entries: &[u8],
+    input: &mut impl Read,
+    room: &mut [u8; report::ROOM],
     workspace: &mut [u8],
-    picture: &mut [u8],
-) -> io::Result<bool>
-    requires { 65535 ≤ length picture.old }
-{
-    let mut at = 0;
-    while at < entries.len() {
-        let end = report::entry_end(entries, at, HEADER);
-        if entries.len() < end {
-            return Ok(false);
-        }
-        let entry = &entries[at..end];
-        let works = works_start(entry);
-        let start = tape_start(entry, works);
-        if entry.len() < start {
-            return Ok(false);
-        }
-        print_calls(rt, entry, works, start, workspace, picture)?;
-        at = end;
+    picture: &mut [u8; report::ROOM],
+) -> Result<(), SampleError> {
+    for entry in Entries::<HEADER>::new(report::read_sample(input, room)?) {
+        print_calls(rt, entry?, workspace, picture)?;
     }
-    Ok(true)
+    Ok(())
 }
 
 fn main(rt: HostRuntime) -> io::Result<()> {
-    let mut entries = [0; ROOM];
-    let mut workspace = [0; ROOM];
-    let mut picture = [0; ROOM];
-    let end = report::read_full(&mut rt.stdin(), &mut entries)?;
-    if end == entries.len() {
-        return report::write(&rt, b"the sample has more than 65,535 bytes\n");
-    }
-    if !replay(&rt, &entries[0..end], &mut workspace, &mut picture)? {
-        return report::write(&rt, b"the sample is cut short\n");
-    }
-    Ok(())
+    let mut room = [0; report::ROOM];
+    let mut workspace = [0; report::ROOM];
+    let mut picture = [0; report::ROOM];
+    let replayed = replay(
+        &rt,
+        &mut rt.stdin(),
+        &mut room,
+        &mut workspace,
+        &mut picture,
+    );
+    report::finish(&rt, replayed)
 }

@@ -7,7 +7,6 @@ use borrow.Author.Tests.{le-ltb, ltb-false}
 use lib.Dec.{lit≤, ltb}
 use lib.ListN.{length}
 use Rattle.tape.specs.declared.Style.{Style}
-use Rattle.tape.specs.declared.Answer.{Answer}
 use Rattle.tape.specs.Outcome.{Outcome, accepted, refused}
 use Rattle.tape.specs.Command.{most_letters}
 use Rattle.tape.specs.Runs.{Letter}
@@ -58,7 +57,7 @@ pub letters_fit : (s : Style) (tape ws : List ℕ) {ws' : List ℕ} {n : ℕ} (a
 letters_fit s tape ws a = rw a.means at (fits s (length ws) tape)
 
 -- the answer goes into one number
-pub read_packs : (s : Style) (tape ws : List ℕ) {ws' : List ℕ} {r : Answer} → TapeRead tape ws ws' s r → Packs r
+pub read_packs : (s : Style) (tape ws : List ℕ) {ws' : List ℕ} {r : Outcome ℕ} → TapeRead tape ws ws' s r → Packs r
 read_packs s tape ws w =
     let o = read_call s (length ws) tape in
     packs length 11 o (weaken (Fits tape (length ws)) 11 (λ ls. length ls < 2 ^ 32) 11 (omega arith) small o (fits s (length ws) tape)) w.answers

@@ -1,6 +1,7 @@
 -- What a tape comes to is bounded: at most 4,096 letters, or a refusal with a number from 1 to 7 and a place on the
 -- tape or at its end.
 use mathlib.Core.Path.{◌≡◌, ◌∙◌, refl, ap}
+use Rattle.std.specs.Prelude.{Option, None}
 use mathlib.Core.Bool.{Bool, true, false}
 use mathlib.Core.List.{List, [], ◌∷◌}
 use Prim.Native.Nat.{ℕ, zero, suc, ◌+◌, ◌≤◌}
@@ -12,7 +13,7 @@ use Rattle.tape.specs.Outcome.{Outcome, accepted, refused, on_accepted, unless}
 use Rattle.tape.specs.Command.{most_letters, operand_width, added, fault_of, command_of}
 use Rattle.tape.specs.Runs.{Run, merge, Letter, letters_of}
 use Rattle.tape.specs.Tape.{Frame, frame, says, next, at_end, after, read, tape_runs, tape_letters}
-use Rattle.tape.specs.Marks.{Last, last, last_after, marked}
+use Rattle.tape.specs.Marks.{last_after, marked}
 use Rattle.tape.proofs.Commands.{says_added}
 use Rattle.tape.proofs.Faults.{clean, fault_most}
 use Rattle.tape.proofs.MarkedRuns.{marked_merged}
@@ -28,16 +29,16 @@ Bounded end (accepted ls) = length ls ≤ most_letters
 Bounded end (refused number place) = Own number place end
 
 -- the same of runs, behind n letters
-abbrev Sane : Last → ℕ → ℕ → Outcome (List Run) → Type 0
+abbrev Sane : Option Style → ℕ → ℕ → Outcome (List Run) → Type 0
 Sane l n end (accepted rs) = n + length (marked l rs) ≤ most_letters
 Sane l n end (refused number place) = Own number place end
 
-end_sane : (l : Last) (n : ℕ) (around : List Style) (naming : Bool) (place : ℕ) → n ≤ most_letters → Sane l n place (at_end around naming place)
+end_sane : (l : Option Style) (n : ℕ) (around : List Style) (naming : Bool) (place : ℕ) → n ≤ most_letters → Sane l n place (at_end around naming place)
 end_sane l n [] true place h = record { least = lit≤ tt; most = lit≤ tt; on = omega arith }
 end_sane l n [] false place h = omega arith
 end_sane l n (s ∷ around) naming place h = record { least = lit≤ tt; most = lit≤ tt; on = omega arith }
 
-after_sane : (l : Last) (n m end : ℕ) (rs : List Run) (o : Outcome (List Run)) → length (marked l rs) ≡ m
+after_sane : (l : Option Style) (n m end : ℕ) (rs : List Run) (o : Outcome (List Run)) → length (marked l rs) ≡ m
     → Sane (last_after l rs) (n + m) end o
     → Sane l n end (after rs o)
 after_sane l n m end rs (accepted qs) e h =
@@ -46,7 +47,7 @@ after_sane l n m end rs (accepted qs) e h =
 after_sane l n m end rs (refused number place) e h = h
 
 -- one command, before what follows it
-command_sane : (c : ℕ) (rest : List ℕ) (f : Frame) (place n : ℕ) (l : Last) (o : Outcome (List Run)) →
+command_sane : (c : ℕ) (rest : List ℕ) (f : Frame) (place n : ℕ) (l : Option Style) (o : Outcome (List Run)) →
     let rs = says (command_of c rest) f.style f.naming in
     (n + added f.naming c ≤ most_letters → Sane (last_after l rs) (n + added f.naming c) (place + 1 + length rest) o)
     → Sane l n (place + suc (length rest)) (unless (fault_of f.naming (length f.around) n c rest) place (after rs o))
@@ -62,7 +63,7 @@ command_sane c rest f place n l o ih = go (fault_of f.naming (length f.around) n
         let most = fault_most f.naming (length f.around) n c rest in
         record { least = omega arith; most = omega arith; on = omega arith }
 
-read_sane : (l : List ℕ) (skip : ℕ) (f : Frame) (place n : ℕ) (la : Last) → n ≤ most_letters
+read_sane : (l : List ℕ) (skip : ℕ) (f : Frame) (place n : ℕ) (la : Option Style) → n ≤ most_letters
     → Sane la n (place + length l) (read skip f place n l)
 unfolding read
 read_sane [] skip f place n la h =
@@ -80,9 +81,9 @@ read_sane (c ∷ rest) zero f place n la h =
 
 pub letters_bounded : (s : Style) (tape : List ℕ) → Bounded (length tape) (tape_letters s tape)
 unfolding tape_letters tape_runs
-letters_bounded s tape = to (read 0 (frame s [] false) 0 0 tape) (read_sane tape 0 (frame s [] false) 0 0 (last s true) (omega arith))
+letters_bounded s tape = to (read 0 (frame s [] false) 0 0 tape) (read_sane tape 0 (frame s [] false) 0 0 None (omega arith))
   where
-    to : (o : Outcome (List Run)) → Sane (last s true) 0 (0 + length tape) o
+    to : (o : Outcome (List Run)) → Sane None 0 (0 + length tape) o
         → Bounded (length tape) (on_accepted letters_of (on_accepted merge o))
-    to (accepted rs) h = let e = ap length (marked_merged s rs) in omega arith
+    to (accepted rs) h = let e = ap length (marked_merged rs) in omega arith
     to (refused number place) h = let on = h.on in record { least = h.least; most = h.most; on = omega arith }

@@ -7,9 +7,8 @@ use Prim.Native.Nat.{ℕ, ◌+◌, ◌*◌, ◌/◌, ◌%◌, ◌≤◌, ◌<◌
 use native.Mathlib.Omega.{arith}
 use borrow.Author.Tests.{lt-ltb, le-ltb, leb-true, eqb-true}
 use lib.Dec.{lit≤, eqb, leb}
-use Rattle.tape.specs.declared.Answer.{Answer}
 use Rattle.tape.specs.Outcome.{Outcome, accepted, refused, refuse_if, on_accepted}
-use Rattle.tape.specs.Call.{answer_of, changed, keeps_workspace, Workspace, Came}
+use Rattle.tape.specs.Call.{changed, keeps_workspace, Workspace, Came}
 use Rattle.tape.specs.Tape.{most_bytes}
 use Rattle.tape.specs.Packed.{packed, unpacked}
 use Rattle.tape.specs.Near.{Near}
@@ -18,19 +17,19 @@ use Rattle.tape.specs.Near.{Near}
 
 module _ {A X : Type 0} {o : Outcome A} {tally : A → ℕ} {f : A → X} {Holds : A → Type 0} {x : X} {ws ws' : List ℕ} where
   -- the call comes to what another outcome is
-  pub comes_to : {u : Outcome A} {x' : X} {answer : Answer} → o ≡ u → Came u tally f Holds x x' ws ws' answer → Came o tally f Holds x x' ws ws' answer
+  pub comes_to : {u : Outcome A} {x' : X} {answer : Outcome ℕ} → o ≡ u → Came u tally f Holds x x' ws ws' answer → Came o tally f Holds x x' ws ws' answer
   comes_to {x' = x'} {answer} e c = subst (λ (y : Outcome A). Came y tally f Holds x x' ws ws' answer) (sym e) c
 
   pub refuses : {number place : ℕ} → o ≡ refused number place → (keeps_workspace number ≡ true → ws' ≡ ws)
-      → Came o tally f Holds x x ws ws' (Answer.Refused number place)
+      → Came o tally f Holds x x ws ws' (refused number place)
   refuses e k = comes_to e (record { answers = refl; changes = refl; leaves = k })
 
-  pub accepts : {a : A} {n : ℕ} {x' : X} → o ≡ accepted a → n ≡ tally a → x' ≡ f a → Holds a → Came o tally f Holds x x' ws ws' (Answer.Accepted n)
-  accepts e n p h = comes_to e (record { answers = ap Answer.Accepted n; changes = p; leaves = h })
+  pub accepts : {a : A} {n : ℕ} {x' : X} → o ≡ accepted a → n ≡ tally a → x' ≡ f a → Holds a → Came o tally f Holds x x' ws ws' (accepted n)
+  accepts e n p h = comes_to e (record { answers = ap accepted n; changes = p; leaves = h })
 
 -- what an outcome leaves is what a call may leave that comes to it
 pub happens : {A X : Type 0} {tally : A → ℕ} {f : A → X} {Holds : A → Type 0} {x : X} {ws : List ℕ} (o : Outcome A) → ((a : A) → Holds a)
-    → Came o tally f Holds x (changed f x o) ws ws (answer_of (on_accepted tally o))
+    → Came o tally f Holds x (changed f x o) ws ws (on_accepted tally o)
 happens {A} {Holds = Holds} {ws = ws} o all = record { answers = refl; changes = refl; leaves = by o }
   where
     by : (o : Outcome A) → Workspace Holds ws ws o
@@ -51,20 +50,20 @@ pub record Refuses {A X : Type 0} (o : Outcome A) (x x' : X) (ws ws' : List ℕ)
   pub same : x' ≡ x
   pub keeps : keeps_workspace number ≡ true → ws' ≡ ws
 
-module _ {A X : Type 0} {o : Outcome A} {tally : A → ℕ} {f : A → X} {Holds : A → Type 0} {x x' : X} {ws ws' : List ℕ} {r : Answer}
+module _ {A X : Type 0} {o : Outcome A} {tally : A → ℕ} {f : A → X} {Holds : A → Type 0} {x x' : X} {ws ws' : List ℕ} {r : Outcome ℕ}
     (c : Came o tally f Holds x x' ws ws' r) where
-  pub accepted_is : {n : ℕ} → r ≡ Answer.Accepted n → Accepts o tally f Holds x' n
+  pub accepted_is : {n : ℕ} → r ≡ accepted n → Accepts o tally f Holds x' n
   accepted_is {n} is = go o refl (sym is ∙ c.answers) c.changes c.leaves
     where
-      go : (u : Outcome A) → o ≡ u → Answer.Accepted n ≡ answer_of (on_accepted tally u) → x' ≡ changed f x u → Workspace Holds ws ws' u
+      go : (u : Outcome A) → o ≡ u → accepted n ≡ on_accepted tally u → x' ≡ changed f x u → Workspace Holds ws ws' u
           → Accepts o tally f Holds x' n
       go (accepted a) e q p h = record { given = a; means = e; counts = cc; changes = p; holds = h }
       go (refused number place) e q p h = let z : ◌≡◌ {A = ℕ} 0 1 = cc in absurd (omega arith)
 
-  pub refused_is : {number place : ℕ} → r ≡ Answer.Refused number place → Refuses o x x' ws ws' number place
+  pub refused_is : {number place : ℕ} → r ≡ refused number place → Refuses o x x' ws ws' number place
   refused_is {number} {place} is = go o refl (sym is ∙ c.answers) c.changes c.leaves
     where
-      go : (u : Outcome A) → o ≡ u → Answer.Refused number place ≡ answer_of (on_accepted tally u) → x' ≡ changed f x u → Workspace Holds ws ws' u
+      go : (u : Outcome A) → o ≡ u → refused number place ≡ on_accepted tally u → x' ≡ changed f x u → Workspace Holds ws ws' u
           → Refuses o x x' ws ws' number place
       go (accepted a) e q p h = let z : ◌≡◌ {A = ℕ} 0 1 = cc in absurd (omega arith)
       go (refused m at) e q p h =
@@ -109,16 +108,16 @@ module _ {A : Type 0} (P : A → Type 0) (most : ℕ) where
 -- ---- as one number
 
 -- what is known of an answer that is to be one number
-pub record Packs (answer : Answer) : Type 0 where
+pub record Packs (answer : Outcome ℕ) : Type 0 where
   pub near : Near answer
   pub back : unpacked (packed answer) ≡ answer
 
 module _ {A : Type 0} (tally : A → ℕ) (most : ℕ) where
-  pub packs : (o : Outcome A) → Bounded (λ a. tally a < 2 ^ 32) most o → {answer : Answer} → answer ≡ answer_of (on_accepted tally o) → Packs answer
+  pub packs : (o : Outcome A) → Bounded (λ a. tally a < 2 ^ 32) most o → {answer : Outcome ℕ} → answer ≡ on_accepted tally o → Packs answer
   unfolding unpacked
   packs o b e = subst Packs (sym e) (by o b)
     where
-      by : (o : Outcome A) → Bounded (λ a. tally a < 2 ^ 32) most o → Packs (answer_of (on_accepted tally o))
+      by : (o : Outcome A) → Bounded (λ a. tally a < 2 ^ 32) most o → Packs (on_accepted tally o)
       by (accepted a) b = record { near = tt; back = rw (lt-ltb (tally a) (2 ^ 32) b) }
       by (refused number place) b =
           let least = b.least in

@@ -1,19 +1,20 @@
 -- What single commands are, and how many letters they add.
 use mathlib.Core.Path.{◌≡◌, ◌∙◌, refl, sym, ap}
-use mathlib.Core.Bool.{Bool, true, false, cond, not, ◌&&◌, ◌||◌}
+use mathlib.Core.Bool.{Bool, true, false, cond}
 use mathlib.Core.List.{List, [], ◌∷◌}
 use Prim.Native.Nat.{ℕ, zero, suc, ◌≤◌, ◌<◌}
 use native.Mathlib.Omega.{arith}
-use borrow.Author.Tests.{leb-true, leb-false, le-leb, lt-leb, ne_eqb, not-false}
+use borrow.Author.Tests.{leb-true, leb-false, le-leb, lt-leb, ne_eqb}
 use lib.Dec.{leb, eqb}
 use lib.ListN.{length}
+use Rattle.std.specs.Prelude.{Option}
 use Rattle.tape.specs.declared.Style.{Style}
 use Rattle.tape.specs.Style.{Opener}
 use Rattle.tape.specs.Command.{code_point, is_letter, is_opener, added, Command, shows, opens, names, time_mark, opener_of, command_of}
 use Rattle.tape.specs.Runs.{Run}
 use Rattle.tape.specs.Tape.{says}
-use Rattle.tape.specs.Marks.{Last, marked}
-use Rattle.tape.proofs.EqualStyles.{split}
+use Rattle.tape.specs.Marks.{marked}
+use Rattle.std.proofs.lemmas.Bool.{and_parts}
 
 -- from 06 on a command is an opener, a voice or a time mark
 from_six : (c : ℕ) (rest : List ℕ) → 6 ≤ c
@@ -39,7 +40,7 @@ unfolding added
 from_six_adds c naming h = rw (le-leb 2 c (omega arith), lt-leb c 5 (omega arith), ne_eqb c 0 (λ e. omega arith))
 
 -- a command adds as many letters as its runs have
-pub says_added : (c : ℕ) (rest : List ℕ) (naming : Bool) (l : Last) (s : Style)
+pub says_added : (c : ℕ) (rest : List ℕ) (naming : Bool) (l : Option Style) (s : Style)
     → length (marked l (says (command_of c rest) s naming)) ≡ added naming c
 unfolding command_of added is_letter
 says_added zero rest true l s = refl
@@ -78,7 +79,7 @@ else_letter c h z o a b e = go (leb c 5) refl
 
 pub letter_range : (c : ℕ) → is_letter c ≡ true → (2 ≤ c) × (c ≤ 4)
 unfolding is_letter
-letter_range c e = let p = split (leb 2 c) (leb c 4) e in (leb-true 2 c p.0, leb-true c 4 p.1)
+letter_range c e = let p = and_parts (leb 2 c) (leb c 4) e in (leb-true 2 c p.0, leb-true c 4 p.1)
 
 pub letter_command : (c : ℕ) (rest : List ℕ) → is_letter c ≡ true → command_of c rest ≡ shows (code_point c rest ∷ [])
 unfolding command_of
@@ -103,16 +104,12 @@ letter_flat c e =
     let r = letter_range c e in
     rw (lt-leb 6 c (omega arith))
 
--- what a name holds but its 00
-pub name_letter : (c : ℕ) → (true && not (eqb c 0 || is_letter c)) ≡ false → 0 < c → is_letter c ≡ true
-name_letter c e h = not-false (is_letter c) (rw (ne_eqb c 0 (λ z. omega arith)) at e)
-
 -- ---- openers
 
 pub opener_range : (c : ℕ) → is_opener c ≡ true → (6 ≤ c) × (c ≤ 10)
 unfolding is_opener
 opener_range c e =
-    (leb-true 6 c (split (leb 6 c) (leb c 10) e).0, leb-true c 10 (split (leb 6 c) (leb c 10) e).1)
+    (leb-true 6 c (and_parts (leb 6 c) (leb c 10) e).0, leb-true c 10 (and_parts (leb 6 c) (leb c 10) e).1)
 
 pub open_command : (c : ℕ) (rest : List ℕ) → is_opener c ≡ true → (c ≡ 9 → ⊥) → command_of c rest ≡ opens (opener_of c rest)
 open_command c rest o h =

@@ -1,35 +1,27 @@
 -- Equal style is equality.
-use mathlib.Core.Path.{◌≡◌, refl, sym}
-use mathlib.Core.Bool.{Bool, true, false, ◌&&◌, beq}
+use mathlib.Core.Path.{◌≡◌, ◌∙◌, refl, ap}
+use mathlib.Core.Bool.{Bool, true, false, not, ◌&&◌, beq}
+use Rattle.std.specs.Prelude.{Option, None, Some}
+use Rattle.std.specs.Option.{option_eq}
+use Rattle.std.specs.Cmp.{booleans_Decides, bool_eq_equiv}
+use Rattle.std.proofs.Math.Bool.{and_comm, and_assoc}
+use Rattle.std.proofs.lemmas.Bool.{and_parts}
 use borrow.Author.Tests.{eqb-true, eq-eqb}
 use lib.Dec.{eqb}
 use Rattle.tape.specs.declared.Style.{Style}
 use Rattle.tape.specs.Style.{same_style}
-
-pub split : (a b : Bool) → (a && b) ≡ true → (a ≡ true) × (b ≡ true)
-split true b e = (refl, e)
-split false b e = let z : false ≡ true = e in (z, cc)
-
-pub beq_eq : (a b : Bool) → beq a b ≡ true → a ≡ b
-beq_eq true true e = refl
-beq_eq true false e = sym e
-beq_eq false true e = e
-beq_eq false false e = refl
-
-pub beq_refl : (a : Bool) → beq a a ≡ true
-beq_refl true = refl
-beq_refl false = refl
+use Rattle.tape.specs.Marks.{starts}
 
 pub same_eq : (a b : Style) → same_style a b ≡ true → a ≡ b
 unfolding same_style
 same_eq a b e =
-    let e1 = split (beq a.bold b.bold) _ e in
-    let e2 = split (beq a.italic b.italic) _ e1.1 in
-    let e3 = split (eqb a.red b.red) _ e2.1 in
-    let e4 = split (eqb a.green b.green) _ e3.1 in
-    let e5 = split (eqb a.blue b.blue) _ e4.1 in
-    let bold = beq_eq a.bold b.bold e1.0 in
-    let italic = beq_eq a.italic b.italic e2.0 in
+    let e1 = and_parts (beq a.bold b.bold) _ e in
+    let e2 = and_parts (beq a.italic b.italic) _ e1.1 in
+    let e3 = and_parts (eqb a.red b.red) _ e2.1 in
+    let e4 = and_parts (eqb a.green b.green) _ e3.1 in
+    let e5 = and_parts (eqb a.blue b.blue) _ e4.1 in
+    let bold = (booleans_Decides a.bold b.bold).0 e1.0 in
+    let italic = (booleans_Decides a.italic b.italic).0 e2.0 in
     let red = eqb-true a.red b.red e3.0 in
     let green = eqb-true a.green b.green e4.0 in
     let blue = eqb-true a.blue b.blue e5.0 in
@@ -40,10 +32,33 @@ pub same_refl : (a : Style) → same_style a a ≡ true
 unfolding same_style
 same_refl a =
     rw (
-      beq_refl a.bold,
-      beq_refl a.italic,
+      bool_eq_equiv.refl a.bold,
+      bool_eq_equiv.refl a.italic,
       eq-eqb a.red a.red refl,
       eq-eqb a.green a.green refl,
       eq-eqb a.blue a.blue refl,
       eq-eqb a.alpha a.alpha refl,
     )
+
+-- the fields in the order in which they are declared
+abbrev same : Style → Style → Bool
+same a b = eqb a.red b.red && (eqb a.green b.green && (eqb a.blue b.blue && (eqb a.alpha b.alpha && (beq a.bold b.bold && beq a.italic b.italic))))
+
+-- the marks may be compared last
+same_is : (a b : Style) → same a b ≡ same_style a b
+unfolding same_style
+same_is a b = rw (last (eqb a.alpha b.alpha), past (eqb a.blue b.blue), past (eqb a.green b.green), past (eqb a.red b.red)) refl
+  where
+    past : (x t u y : Bool) → (x && (t && (u && y))) ≡ (t && (u && (x && y)))
+    past true t u y = refl
+    past false true true y = refl
+    past false true false y = refl
+    past false false u y = refl
+
+    last : (x t u : Bool) → (x && (t && u)) ≡ (t && (u && x))
+    last x t u = and_comm x (t && u) ∙ and_assoc t u x
+
+-- a style that differs from the last run's, or that has no letter before it, starts a run
+pub differs : (l : Option Style) (s : Style) → not (option_eq same l (Some s)) ≡ starts l s
+differs None s = refl
+differs (Some t) s = ap not (same_is t s)

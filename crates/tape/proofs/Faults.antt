@@ -2,13 +2,14 @@
 use mathlib.Core.Path.{◌≡◌, refl}
 use mathlib.Core.Bool.{Bool, true, false, cond, not, ◌&&◌, ◌||◌}
 use mathlib.Core.List.{List, [], ◌∷◌}
-use Prim.Native.Nat.{ℕ, ◌+◌, ◌≤◌, ◌<◌}
+use Prim.Native.Nat.{ℕ, zero, suc, ◌+◌, ◌≤◌, ◌<◌}
 use native.Mathlib.Omega.{arith}
 use borrow.Author.Tests.{leb-true, le-leb, lt-leb, le-ltb, ltb-false, eq-eqb, ne_eqb, eqb-false}
 use lib.Dec.{T, lit≤, leb, leb→le, ltb, ltb→lt, eqb}
 use lib.Ieee.Fits.{and_l, and_r}
 use lib.ListN.{length}
-use Rattle.tape.proofs.EqualStyles.{split}
+use Rattle.std.proofs.lemmas.Bool.{and_parts}
+use Rattle.tape.specs.Outcome.{accepted, refused, unless}
 use Rattle.tape.specs.Command.{deepest, most_letters, operand_width, code_point, is_letter, is_opener, is_scalar, added, fault_tests, first_of, fault_of}
 
 -- the test of a number in a table
@@ -106,6 +107,24 @@ not_deepest {depth = depth} ok o d = eqb-false depth deepest (rw o at ok.shallow
 pub opens_in_list : (naming : Bool) {depth n c : ℕ} {rest : List ℕ} → Clean naming depth n c rest → is_opener c ≡ true → naming ≡ false
 unfolding is_opener is_letter
 opens_in_list true {c = c} ok o =
-    let six = leb-true 6 c (split (leb 6 c) (leb c 10) o).0 in
+    let six = leb-true 6 c (and_parts (leb 6 c) (leb c 10) o).0 in
     rw (ne_eqb c 0 (λ e. omega arith), le-leb 2 c (omega arith), lt-leb c 4 (omega arith)) at ok.plain
 opens_in_list false ok o = refl
+
+-- ---- a command that is checked
+
+-- what a check comes to whose first fault is f
+pub passed_check : (f place : ℕ) {u : Unit {0}} → accepted u ≡ unless f place (accepted tt) → f ≡ 0
+passed_check zero place e = refl
+passed_check (suc f) place e = let z : ◌≡◌ {A = ℕ} 0 1 = cc in absurd (omega arith)
+
+pub record Fault (f place number at : ℕ) : Type 0 where
+  pub is : number ≡ f
+  pub some : number ≡ 0 → ⊥
+  pub there : at ≡ place
+
+pub failed_check : (f place : ℕ) {number at : ℕ} → refused number at ≡ unless {A = Unit {0}} f place (accepted tt) → Fault f place number at
+failed_check zero place e = let z : ◌≡◌ {A = ℕ} 0 1 = cc in absurd (omega arith)
+failed_check (suc f) place {number = number} e =
+    let is : number ≡ suc f = cc in
+    record { is = is; some = λ z. omega arith; there = cc }

@@ -4,6 +4,7 @@ pub mod Faults  -- the table of faults, test by test, and what a command without
 pub mod Commands  -- what single commands are, and how many letters they add
 pub mod MeaningSteps  -- how the tape's meaning goes on: one command, a fault, the end
 pub mod EqualStyles  -- equal style is equality
+pub mod Copied  -- for the layers above too: bytes copied into a part of a buffer are stored one after the other
 pub mod StoredRuns  -- runs stored one after the other are stored together
 pub mod TapeParts  -- parts of a tape that are read one after the other are read together
 pub mod LeafCommands  -- commands that neither open nor end anything

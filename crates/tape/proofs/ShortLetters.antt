@@ -14,7 +14,7 @@ use Rattle.tape.specs.Runs.{run}
 use Rattle.tape.specs.Reading.{byte_at, rest_at, byte_of, rest_of, place_after, Wrote, Sound, short_letter, WentOn}
 use Rattle.tape.proofs.Faults.{Clean, no_fault}
 use Rattle.tape.proofs.Operands.{spells_1}
-use Rattle.tape.proofs.EqualStyles.{split}
+use Rattle.std.proofs.lemmas.Bool.{and_parts}
 use Rattle.tape.proofs.TapeParts.{went_command}
 
 -- what such a letter has
@@ -26,8 +26,8 @@ pub record ShortLetter (tape : List ℕ) (at count : ℕ) : Type 0 where
 pub short_letter_lem : (tape : List ℕ) (at count : ℕ) → short_letter tape at count ≡ true → ShortLetter tape at count
 unfolding short_letter
 short_letter_lem tape at count e =
-    let p = split (eqb (byte_at tape at) 0x02) (leb (operand_width 0x02) (length (rest_at tape at)) && ltb count most_letters) e in
-    let q = split (leb (operand_width 0x02) (length (rest_at tape at))) (ltb count most_letters) p.1 in
+    let p = and_parts (eqb (byte_at tape at) 0x02) (leb (operand_width 0x02) (length (rest_at tape at)) && ltb count most_letters) e in
+    let q = and_parts (leb (operand_width 0x02) (length (rest_at tape at))) (ltb count most_letters) p.1 in
     let whole = leb-true (operand_width 0x02) (length (rest_at tape at)) q.0 in
     let n = length-drop (at + 1) tape in
     record { letter = eqb-true (byte_at tape at) 0x02 p.0; whole = omega arith; room = ltb-true count most_letters q.1 }

@@ -6,19 +6,20 @@ use native.Mathlib.Nat.{add-zero, add-suc, suc-add, add_assoc}
 use native.Mathlib.Omega.{arith}
 use lib.ListN.{length, set, length-append}
 use lib.Seq.{sets}
+use Rattle.std.specs.Prelude.{Option}
 use Rattle.tape.specs.declared.Style.{Style}
 use Rattle.tape.specs.declared.State.{State}
 use Rattle.tape.specs.Runs.{Run, run, Letter, letters_in}
-use Rattle.tape.specs.Marks.{Last, starts, last_with, last_after, marked}
+use Rattle.tape.specs.Marks.{starts, last_with, last_after, marked}
 use Rattle.tape.specs.TapeRead.{stored_letter, stored_letters, stored}
-use Rattle.tape.specs.Reading.{last_of, wrote, holding, Wrote}
+use Rattle.tape.specs.Reading.{wrote, holding, Wrote}
 use Rattle.tape.proofs.EqualStyles.{same_refl}
 
-last_append : (l : Last) (rs qs : List Run) → last_after l (rs ++ qs) ≡ last_after (last_after l rs) qs
+last_append : (l : Option Style) (rs qs : List Run) → last_after l (rs ++ qs) ≡ last_after (last_after l rs) qs
 last_append l [] qs = refl
 last_append l (r ∷ rs) qs = last_append (last_with l r) rs qs
 
-pub marked_append : (l : Last) (rs qs : List Run) → marked l (rs ++ qs) ≡ marked l rs ++ marked (last_after l rs) qs
+pub marked_append : (l : Option Style) (rs qs : List Run) → marked l (rs ++ qs) ≡ marked l rs ++ marked (last_after l rs) qs
 marked_append l [] qs = refl
 marked_append l (r ∷ rs) qs =
     ap (λ (x : List Letter). letters_in r.style (starts l r.style) r.codes ++ x) (marked_append (last_with l r) rs qs)
@@ -50,9 +51,9 @@ stored_append ws n ls ms =
 wrote_append : (a : State) (rs qs : List Run) (m at : ℕ) → wrote (wrote a rs m) qs at ≡ wrote a (rs ++ qs) at
 wrote_append a rs qs m at =
     rw (
-      last_append (last_of a) rs qs,
-      marked_append (last_of a) rs qs,
-      length-append (marked (last_of a) rs) (marked (last_after (last_of a) rs) qs),
+      last_append a.last rs qs,
+      marked_append a.last rs qs,
+      length-append (marked a.last rs) (marked (last_after a.last rs) qs),
       add_assoc,
     )
 
@@ -64,12 +65,12 @@ wrote_then {u} {v} {w} {a} {b} {c} {rs} {qs} {m} {at} h k =
       bytes =
           k.bytes
           ∙ ap₂ (λ (x : List ℕ) (y : State). holding x y qs) h.bytes h.state
-          ∙ stored_append u a.count (marked (last_of a) rs) (marked (last_after (last_of a) rs) qs)
-          ∙ ap (stored u a.count) (sym (marked_append (last_of a) rs qs));
+          ∙ stored_append u a.count (marked a.last rs) (marked (last_after a.last rs) qs)
+          ∙ ap (stored u a.count) (sym (marked_append a.last rs qs));
     }
 
 -- two letters in one style are one run
-marked_pair : (l : Last) (s : Style) (x y : ℕ) → marked l (run s (x ∷ []) ∷ run s (y ∷ []) ∷ []) ≡ marked l (run s (x ∷ y ∷ []) ∷ [])
+marked_pair : (l : Option Style) (s : Style) (x y : ℕ) → marked l (run s (x ∷ []) ∷ run s (y ∷ []) ∷ []) ≡ marked l (run s (x ∷ y ∷ []) ∷ [])
 marked_pair l s x y = rw (same_refl s)
 
 pub wrote_pair : {u v w : List ℕ} {a b c : State} (s : Style) (x y : ℕ) {m at : ℕ} → Wrote u v a b (run s (x ∷ []) ∷ []) m
@@ -77,4 +78,4 @@ pub wrote_pair : {u v w : List ℕ} {a b c : State} (s : Style) (x y : ℕ) {m a
     → Wrote u w a c (run s (x ∷ y ∷ []) ∷ []) at
 wrote_pair {u} {a = a} s x y h k =
     let both = wrote_then h k in
-    record { state = both.state; bytes = both.bytes ∙ ap (stored u a.count) (marked_pair (last_of a) s x y) }
+    record { state = both.state; bytes = both.bytes ∙ ap (stored u a.count) (marked_pair a.last s x y) }

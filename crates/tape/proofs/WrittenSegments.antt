@@ -19,7 +19,7 @@ use Rattle.tape.specs.Segments.{Segment, Segments, line_break, group, none, ◌t
 use Rattle.tape.proofs.MergeAlike.{Alike, alike_merge, alike_append, alike_trans, alike_refl, spelled, alike_spelled, alike_named}
 use Rattle.tape.proofs.Commands.{letter_command, letter_flat, letter_adds}
 use Rattle.tape.proofs.Faults.{Clean, no_fault}
-use Rattle.tape.proofs.EqualStyles.{split}
+use Rattle.std.proofs.lemmas.Bool.{and_parts}
 use Rattle.tape.proofs.MeaningSteps.{after_none, after_after, read_command}
 
 -- From frame f and after n letters, these bytes go to frame g and m letters, and add runs that merge like rs.
@@ -171,7 +171,7 @@ means_letters : (s : Style) (around : List Style) (naming : Bool) (n : ℕ) (vs 
     → Means (frame s around naming) (frame s around naming) n (n + length vs) (spelled s vs) (letters_bytes vs)
 means_letters s around naming n [] h k = rw add-zero (record { runs = []; alike = alike_refl []; goes = λ place rest. (place, sym (after_none _)) })
 means_letters s around naming n (v ∷ vs) h k =
-    let p = split (is_scalar v) (are_scalars vs) h in
+    let p = and_parts (is_scalar v) (are_scalars vs) h in
     let e : n + 1 + length vs ≡ n + suc (length vs) = omega arith in
     rw (← e) (means_then (means_letter s around naming n v p.0 (omega arith)) (means_letters s around naming (n + 1) vs p.1 (omega arith)))
 
@@ -203,11 +203,11 @@ mutual
   means_segment line_break s around n d k h = means_break s around n k
   means_segment Segment.timestamp s around n d k h = rw add-zero (means_timestamp s around n (omega arith))
   means_segment (group o gs) s around n d k h =
-      let p = split (is_writable o) (writable_list gs) h in
+      let p = and_parts (is_writable o) (writable_list gs) h in
       means_then (means_opener s around n o (omega arith) (omega arith))
       (means_list (inside o s) s around k (means_segments gs (inside o s) (s ∷ around) n (omega arith) k p.1))
   means_segment (Segment.voice name gs) s around n d k h =
-      let p = split (are_scalars name) (writable_list gs) h in
+      let p = and_parts (are_scalars name) (writable_list gs) h in
       let m : ℕ = n + length name + 2 in
       let e : m + letter_count_list gs ≡ n + (length name + (2 + letter_count_list gs)) = omega arith in
       rw (← e)
@@ -220,7 +220,7 @@ mutual
       → Means (frame s around false) (frame s around false) n (n + letter_count_list gs) (walk_list gs s) (written_list gs)
   means_segments none s around n d k h = means_letters s around false n [] refl k
   means_segments (g then gs) s around n d k h =
-      let p = split (writable g) (writable_list gs) h in
+      let p = and_parts (writable g) (writable_list gs) h in
       rw (← add_assoc n (letter_count g) (letter_count_list gs))
       (means_then (means_segment g s around n (omega arith) (omega arith) p.0) (means_segments gs s around (n + letter_count g) (omega arith) (omega arith) p.1))
 

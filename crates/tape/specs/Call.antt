@@ -1,14 +1,9 @@
 -- WHAT A CALL ANSWERS AND LEAVES: document 01, "Who is stopped, and by what". Definitions only.
 -- What a call comes to is an outcome, and all else that can be seen of the call follows from it. So the contract of
--- every call is one claim, `Came`: the call comes to this outcome, and here is what the outcome leaves.
+-- every call is one claim, `Came`: the call comes to this outcome, and here is what the outcome leaves. What it answers
+-- is an outcome too, of a number: how many letters, lines or strokes there are, or were drawn, or its refusal.
 use Rattle.std.specs.Prelude.{◌≡◌, Bool, true, ◌&&◌, ◌||◌, List, ℕ, nat_le, ◌==◌}
-use Rattle.tape.specs.declared.Answer.{Answer}
 use Rattle.tape.specs.Outcome.{Outcome, accepted, refused, on_accepted}
-
--- the answer that says an outcome: a number, or the refusal's number and place
-abbrev pub answer_of : Outcome ℕ → Answer
-answer_of (accepted n) = Answer.Accepted n
-answer_of (refused number place) = Answer.Refused number place
 
 -- what was x before a call is afterwards f of what the call accepted, or, where it is refused, as it was
 abbrev pub changed : {A X : Type 0} → (A → X) → X → Outcome A → X
@@ -43,7 +38,7 @@ pub record Came
     (Holds : A → Type 0)
     (x x' : X)
     (ws ws' : List ℕ)
-    (answer : Answer) : Type 0 where
-  pub answers : answer ≡ answer_of (on_accepted tally o)
+    (answer : Outcome ℕ) : Type 0 where
+  pub answers : answer ≡ on_accepted tally o
   pub changes : x' ≡ changed f x o
   pub leaves : Workspace Holds ws ws' o

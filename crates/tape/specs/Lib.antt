@@ -14,3 +14,4 @@ pub mod Stored
 pub mod Reading
 pub mod Lent
 pub mod Near
+pub mod Answer

@@ -1,8 +1,8 @@
 -- Promises: an answer that fits into one number. No reader of the deposit needs this file.
-use Rattle.std.specs.Prelude.{◌<◌, ◌^◌}
-use Rattle.tape.specs.declared.Answer.{Answer}
+use Rattle.std.specs.Prelude.{ℕ, ◌<◌, ◌^◌}
+use Rattle.tape.specs.Outcome.{Outcome, accepted, refused}
 
 -- a place that leaves the refusal's number alone
-abbrev pub Near : Answer → Type 0
-Near (Answer.Accepted n) = Unit
-Near (Answer.Refused number place) = place < 2 ^ 32
+abbrev pub Near : Outcome ℕ → Type 0
+Near (accepted n) = Unit
+Near (refused number place) = place < 2 ^ 32

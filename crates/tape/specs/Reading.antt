@@ -1,34 +1,30 @@
 -- Promises: what the reader's functions ask of and tell each other. No reader of the deposit needs this file.
-use Rattle.std.specs.Prelude.{◌≡◌, Bool, false, not, ◌&&◌, List, ℕ, ◌+◌, ◌*◌, ◌≤◌, ◌<◌, length, drop, nat_le, nat_lt, slice_index, ◌==◌}
+use Rattle.std.specs.Prelude.{◌≡◌, Bool, false, not, ◌&&◌, List, ℕ, ◌+◌, ◌*◌, ◌≤◌, ◌<◌, length, drop, nat_le, nat_lt, slice_index, ◌==◌, Result, Ok, Err}
 use Rattle.tape.specs.declared.Style.{Style}
 use Rattle.tape.specs.declared.State.{State}
-use Rattle.tape.specs.declared.Step.{Step}
-use Rattle.tape.specs.declared.Step.TheVariants.{Done, Refused}
+use Rattle.tape.specs.declared.refusal.Refusal.{Refusal}
 use Rattle.tape.specs.Outcome.{Outcome, refused}
+use Rattle.tape.specs.Answer.{number_of}
 use Rattle.tape.specs.Command.{most_letters, operand_width, code_point, is_letter, is_opener, is_scalar, added, fault_of, Command, ends, command_of}
 use Rattle.tape.specs.Runs.{Run}
 use Rattle.tape.specs.Tape.{Frame, frame, says, next, after, read}
-use Rattle.tape.specs.Marks.{Last, last, last_after, marked}
+use Rattle.tape.specs.Marks.{last_after, marked}
 use Rattle.tape.specs.TapeRead.{stored}
 
 -- ---- what has been stored
-
-abbrev pub last_of : State → Last
-last_of st = last st.last st.fresh
 
 -- the state at the place `at`, after runs more
 abbrev pub wrote : State → List Run → ℕ → State
 wrote st rs at =
     record {
       at = at;
-      count = st.count + length (marked (last_of st) rs);
-      last = (last_after (last_of st) rs).style;
-      fresh = (last_after (last_of st) rs).fresh;
+      count = st.count + length (marked st.last rs);
+      last = last_after st.last rs;
     }
 
 -- and the workspace
 abbrev pub holding : List ℕ → State → List Run → List ℕ
-holding ws st rs = stored ws st.count (marked (last_of st) rs)
+holding ws st rs = stored ws st.count (marked st.last rs)
 
 -- runs were stored, and the state moved on to the place `at`
 pub record Wrote (ws ws' : List ℕ) (st st' : State) (rs : List Run) (at : ℕ) : Type 0 where
@@ -120,19 +116,19 @@ abbrev pub Stopped : List ℕ → ℕ → (List Style → Frame) → State → �
 Stopped tape depth X a number place =
     (around : List Style) → length around ≡ depth → from tape (X around) a.at a.count ≡ refused number place
 
-abbrev pub Reads : List ℕ → List ℕ → List ℕ → ℕ → (List Style → Frame) → (List Style → Frame) → State → Step → Type 0
-Reads tape ws ws' depth X Y a (Done b) = Went tape ws ws' depth X Y a b
-Reads tape ws ws' depth X Y a (Refused number place) = Stopped tape depth X a number place
+abbrev pub Reads : List ℕ → List ℕ → List ℕ → ℕ → (List Style → Frame) → (List Style → Frame) → State → Result State Refusal → Type 0
+Reads tape ws ws' depth X Y a (Ok b) = Went tape ws ws' depth X Y a b
+Reads tape ws ws' depth X Y a (Err r) = Stopped tape depth X a (number_of r.cause) r.place
 
 -- a segment moves on
-abbrev pub Onward : State → Step → Type 0
-Onward a (Done b) = a.at < b.at
-Onward a (Refused number place) = Unit
+abbrev pub Onward : State → Result State Refusal → Type 0
+Onward a (Ok b) = a.at < b.at
+Onward a (Err r) = Unit
 
 -- the outer list goes to the tape's end
-abbrev pub ToTheEnd : List ℕ → Bool → ℕ → Step → Type 0
-ToTheEnd tape naming depth (Done b) = naming ≡ false → depth ≡ 0 → length tape ≤ b.at
-ToTheEnd tape naming depth (Refused number place) = Unit
+abbrev pub ToTheEnd : List ℕ → Bool → ℕ → Result State Refusal → Type 0
+ToTheEnd tape naming depth (Ok b) = naming ≡ false → depth ≡ 0 → length tape ≤ b.at
+ToTheEnd tape naming depth (Err r) = Unit
 
 -- letters of the style s were read, in whatever list or name
 abbrev pub WentOn : List ℕ → List ℕ → List ℕ → Style → State → State → Type 0
@@ -147,8 +143,8 @@ pub record LettersRead (tape ws ws' : List ℕ) (a : State) (s : Style) (b : Sta
 abbrev pub LeafRead : List ℕ → List ℕ → List ℕ → State → Style → State → Type 0
 LeafRead tape ws ws' a s b = Wrote ws ws' a b (says (command_at tape a) s false) (place_after tape a)
 
-abbrev pub SegmentRead : List ℕ → List ℕ → List ℕ → Bool → ℕ → State → Style → Step → Type 0
+abbrev pub SegmentRead : List ℕ → List ℕ → List ℕ → Bool → ℕ → State → Style → Result State Refusal → Type 0
 SegmentRead tape ws ws' naming depth a s r = Reads tape ws ws' depth (within s naming) (within s naming) a r × Onward a r
 
-abbrev pub ListRead : List ℕ → List ℕ → List ℕ → Bool → ℕ → State → Style → Step → Type 0
+abbrev pub ListRead : List ℕ → List ℕ → List ℕ → Bool → ℕ → State → Style → Result State Refusal → Type 0
 ListRead tape ws ws' naming depth a s r = Reads tape ws ws' depth (within s naming) (past s naming) a r × ToTheEnd tape naming depth r

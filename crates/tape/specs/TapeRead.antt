@@ -3,7 +3,7 @@
 use Rattle.std.specs.Prelude.{◌≡◌, Bool, cond, List, [], ◌∷◌, ◌++◌, ℕ, ◌+◌, ◌*◌, ◌/◌, ◌%◌, length}
 use Rattle.std.proofs.lemmas.List.Edits.{sets}
 use Rattle.tape.specs.declared.Style.{Style}
-use Rattle.tape.specs.declared.Answer.{Answer}
+use Rattle.tape.specs.Outcome.{Outcome}
 use Rattle.tape.specs.Runs.{Letter}
 use Rattle.tape.specs.Tape.{read_call}
 use Rattle.tape.specs.Call.{nothing, Came}
@@ -27,6 +27,6 @@ stored ws n ls = sets ws (8 * n) (stored_letters ls)
 
 -- Reading a tape whose outer list has the style s: the answer is how many letters it has, and the workspace begins with
 -- them and is as it was behind them. Nothing else is changed.
-abbrev pub TapeRead : List ℕ → List ℕ → List ℕ → Style → Answer → Type 0
+abbrev pub TapeRead : List ℕ → List ℕ → List ℕ → Style → Outcome ℕ → Type 0
 TapeRead tape ws ws' s answer =
     Came (read_call s (length ws) tape) length (λ ls. nothing) (λ ls. ws' ≡ stored ws 0 ls) nothing nothing ws ws' answer

@@ -1,23 +1,17 @@
 // Letters in the workspace, eight bytes each: three of the code point, high byte first; red, green,
-// blue, alpha; and flags.
-ghost use Rattle.std.specs.Prelude.{◌≡◌, cond, ◌+◌, ◌*◌, ◌/◌, ◌≤◌, ◌<◌, length};
+// blue, alpha; and flags. That a letter lies in what is lent is asked of each caller, by its number.
+ghost use Rattle.std.specs.Prelude.{◌≡◌, ◌+◌, ◌*◌, ◌/◌, ◌≤◌, ◌<◌, length};
 ghost use Rattle.std.proofs.lemmas.List.Edits.{sets};
 ghost use Rattle.tape.specs.TapeRead.{flags_of, stored_letter};
 ghost use Rattle.tape.specs.Stored.{letter_byte, code_at, odd, style_at};
 
-use crate::{Style, wide};
+use crate::Style;
 
-fn flag(on: bool, v: u8) -> u8
-    ensures { (result ≡ cond on v 0) × (result ≤ v) }
-{
-    if on { v } else { 0 }
-}
-
-// 1 for bold, 2 for italic, 4 for the start of a run.
+// 1 for bold, 2 for italic, 4 for the start of a run: three marks in a byte, which no conversion of the library makes.
 fn flags(s: Style, start: bool) -> u8
     ensures { result ≡ flags_of s start }
 {
-    flag(s.bold, 1) + flag(s.italic, 2) + flag(start, 4)
+    u8::from(s.bold) + 2 * u8::from(s.italic) + 4 * u8::from(start)
 }
 
 // Stores letter number `count`.
@@ -25,15 +19,10 @@ pub fn put_letter(ws: &mut [u8], count: usize, code: u32, s: Style, start: bool)
     requires { (8 * count + 8 ≤ length ws.old) × (code < 16777216) }
     ensures { ws.new ≡ sets ws.old (8 * count) (stored_letter code s start) }
 {
-    let i = 8 * count;
-    ws[i] = (code / 65536) as u8;
-    ws[i + 1] = (code / 256 % 256) as u8;
-    ws[i + 2] = (code % 256) as u8;
-    ws[i + 3] = s.red;
-    ws[i + 4] = s.green;
-    ws[i + 5] = s.blue;
-    ws[i + 6] = s.alpha;
-    ws[i + 7] = flags(s, start);
+    let [_, high, middle, low] = code.to_be_bytes();
+    let flags = flags(s, start);
+    let letter = [high, middle, low, s.red, s.green, s.blue, s.alpha, flags];
+    ws[8 * count..8 * count + 8].copy_from_slice(&letter);
 }
 
 // The code point of a stored letter.
@@ -42,7 +31,7 @@ pub fn code(ws: &[u8], number: usize) -> u32
     ensures { result ≡ code_at ws.now number }
 {
     let i = 8 * number;
-    wide(ws[i]) * 65536 + wide(ws[i + 1]) * 256 + wide(ws[i + 2])
+    u32::from_be_bytes([0, ws[i], ws[i + 1], ws[i + 2]])
 }
 
 // The style of a stored letter.

@@ -1,9 +1,44 @@
-// The reader's parts: a list is read by reading segments, and a segment by reading its list.
-ghost use Rattle.std.specs.Prelude.{◌≤◌, ◌<◌};
+// The reader's parts: a list is read by reading segments, and a segment by reading its list. Tape, workspace and
+// state stay arguments: one is read, one written, and one given back.
+ghost use Rattle.std.specs.Prelude.{◌≡◌, true, false, ◌+◌, ◌≤◌, ◌<◌};
 ghost use Rattle.tape.specs.Command.{deepest};
 ghost use Rattle.tape.specs.Reading.{byte_of, Ready, Sound, Leaf, LeafRead, LettersRead, SegmentRead, ListRead};
 
-use crate::{State, Step, Style, command, wide};
+use crate::{Cause, Refusal, State, Style, command};
+
+// What a command stands inside: a list or a voice's name, of this style, with so many lists open.
+#[derive(Clone, Copy)]
+pub struct Inside {
+    pub style: Style,
+    pub naming: bool,
+    pub depth: usize,
+    ghost shallow: { depth ≤ deepest },
+}
+
+impl Inside {
+    // The name of a voice in it.
+    fn name_in(self) -> Inside
+        ensures { (result.style ≡ self.style) × (result.naming ≡ true) × (result.depth ≡ self.depth) }
+    {
+        Inside {
+            style: self.style,
+            naming: true,
+            depth: self.depth,
+        }
+    }
+
+    // A list in it.
+    fn list_in(self, style: Style) -> Inside
+        requires { self.depth < deepest }
+        ensures { (result.style ≡ style) × (result.naming ≡ false) × (result.depth ≡ self.depth + 1) }
+    {
+        Inside {
+            style,
+            naming: false,
+            depth: self.depth + 1,
+        }
+    }
+}
 
 // A text, a break or a time mark.
 fn read_leaf(tape: &[u8], ws: &mut [u8], st: State, style: Style) -> State
@@ -13,16 +48,12 @@ fn read_leaf(tape: &[u8], ws: &mut [u8], st: State, style: Style) -> State
     let at = st.at;
     let c = tape[at];
     let next = at + 1 + command::operand_width(c);
-    if c == 0x01 {
-        return st.empty_text(style, next);
+    match c {
+        0x01 => st.empty_text(style, next),
+        0x05 => st.put(ws, style, 0x0a, next),
+        0x0b => st.onto(next),
+        _ => st.put(ws, style, command::code_point(tape, at), next),
     }
-    if c == 0x05 {
-        return st.put(ws, style, 0x0a, next);
-    }
-    if c == 0x0b {
-        return st.onto(next);
-    }
-    st.put(ws, style, command::code_point(tape, at), next)
 }
 
 // Letters of one byte, as many as follow. Most commands are such letters: they have no fault, and
@@ -32,80 +63,52 @@ fn read_letters(tape: &[u8], ws: &mut [u8], st: State, style: Style) -> State
     ensures { LettersRead tape.now ws.old ws.new st style result }
 {
     let mut after = st;
-    while after.at < tape.len() {
-        let at = after.at;
-        if !command::is_short_letter(tape, at, after.count) {
-            return after;
-        }
-        let next = at + 1 + command::operand_width(0x02);
-        after = after.put(ws, style, wide(tape[at + 1]), next);
+    while after.at < tape.len() && command::is_short_letter(tape, after.at, after.count) {
+        let next = after.at + 1 + command::operand_width(0x02);
+        after = after.put(ws, style, u32::from(tape[after.at + 1]), next);
     }
     after
 }
 
 // A list or a name up to its 00, or the outer list to the tape's end.
 #[cycle(lists)]
-pub fn read_list(
-    tape: &[u8],
-    ws: &mut [u8],
-    st: State,
-    style: Style,
-    naming: bool,
-    depth: usize,
-) -> Step
-    requires { Ready tape.now ws.old st × (depth ≤ deepest) }
-    ensures { ListRead tape.now ws.old ws.new naming depth st style result }
+pub fn read_list(tape: &[u8], ws: &mut [u8], st: State, inside: Inside) -> Result<State, Refusal>
+    requires { Ready tape.now ws.old st }
+    ensures { ListRead tape.now ws.old ws.new inside.naming inside.depth st inside.style result }
 {
     let mut s = st;
+    // No `for` counts a place that moves on by commands, here and above.
     while s.at < tape.len() {
         let at = s.at;
-        let fault = command::fault(tape, at, s.count, naming, depth);
-        if fault != 0 {
-            return Step::Refused(fault, at);
-        }
+        command::check(tape, at, s.count, inside.naming, inside.depth)?;
         if tape[at] == 0x00 {
-            return Step::Done(s.finish(ws, style, naming, at + 1));
+            return Ok(s.finish(ws, inside.style, inside.naming, at + 1));
         }
-        match read_segment(tape, ws, s, style, naming, depth) {
-            Step::Done(after) => {
-                s = read_letters(tape, ws, after, style);
-            }
-            Step::Refused(number, place) => {
-                return Step::Refused(number, place);
-            }
-        }
+        let after = read_segment(tape, ws, s, inside)?;
+        s = read_letters(tape, ws, after, inside.style);
     }
-    if command::is_outer(naming, depth) {
-        return Step::Done(s);
+    if command::is_outer(inside.naming, inside.depth) {
+        return Ok(s);
     }
-    Step::Refused(3, tape.len())
+    Err(Cause::Unbalanced.at(tape.len()))
 }
 
 // One segment, with its list where it has one. The name of a voice is read as a list is.
 #[cycle(lists)]
-fn read_segment(
-    tape: &[u8],
-    ws: &mut [u8],
-    st: State,
-    style: Style,
-    naming: bool,
-    depth: usize,
-) -> Step
-    requires { Sound tape.now ws.old st naming depth × (0 < byte_of tape.now st) × (depth ≤ deepest) }
-    ensures { SegmentRead tape.now ws.old ws.new naming depth st style result }
+fn read_segment(tape: &[u8], ws: &mut [u8], st: State, inside: Inside) -> Result<State, Refusal>
+    requires { Sound tape.now ws.old st inside.naming inside.depth × (0 < byte_of tape.now st) }
+    ensures { SegmentRead tape.now ws.old ws.new inside.naming inside.depth st inside.style result }
 {
     let at = st.at;
     let c = tape[at];
     if !command::is_opener(c) {
-        return Step::Done(read_leaf(tape, ws, st, style));
+        return Ok(read_leaf(tape, ws, st, inside.style));
     }
     let opened = st.onto(at + 1 + command::operand_width(c));
     if c == 0x09 {
-        return match read_list(tape, ws, opened, style, true, depth) {
-            Step::Done(named) => read_list(tape, ws, named, style, false, depth + 1),
-            Step::Refused(number, place) => Step::Refused(number, place),
-        };
+        let named = read_list(tape, ws, opened, inside.name_in())?;
+        return read_list(tape, ws, named, inside.list_in(inside.style));
     }
-    let inside = command::style_inside(tape, at, style);
-    read_list(tape, ws, opened, inside, false, depth + 1)
+    let style = command::style_inside(tape, at, inside.style);
+    read_list(tape, ws, opened, inside.list_in(style))
 }

@@ -11,22 +11,16 @@ pub const MOST_TAPES: usize = 8;
 pub fn is_unfit(bytes: usize, ends: &[u32]) -> bool
     ensures { result ≡ ends_unfit bytes ends.now }
 {
-    let count = ends.len();
-    if count == 0 {
-        return true;
-    }
-    if MOST_TAPES < count {
+    if ends.is_empty() || MOST_TAPES < ends.len() {
         return true;
     }
     let mut place = 0;
-    let mut i = 0;
-    while i < count {
-        let end = ends[i] as usize;
+    for &end in ends {
+        let end = end as usize;
         if end < place {
             return true;
         }
         place = end;
-        i += 1;
     }
     place != bytes
 }
@@ -36,14 +30,12 @@ pub fn has_too_long(ends: &[u32]) -> bool
     ensures { result ≡ some_too_long 0 ends.now }
 {
     let mut place = 0;
-    let mut i = 0;
-    while i < ends.len() {
-        let end = ends[i] as usize;
+    for &end in ends {
+        let end = end as usize;
         if place + MOST_BYTES < end {
             return true;
         }
         place = end;
-        i += 1;
     }
     false
 }

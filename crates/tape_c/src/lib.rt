@@ -13,5 +13,6 @@ use tape::Style;
 pub extern "C" fn tape_letters(tape: &[u8], workspace: &mut [u8], color: &[u8; 4]) -> u64
     ensures { Answered tape.now workspace.old workspace.new color.now result }
 {
-    tape::read_tape(tape, workspace, Style::default_with(*color)).packed()
+    let style = Style::default_with(*color);
+    tape::packed(tape::read_tape(tape, workspace, style))
 }

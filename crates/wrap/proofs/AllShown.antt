@@ -8,7 +8,7 @@ use lib.Dec.{eqb, leb, ltb}
 use lib.ListN.{length}
 use borrow.Author.Tests.{eqb-true}
 use Rattle.tape.specs.Runs.{Letter}
-use Rattle.tape.proofs.EqualStyles.{split}
+use Rattle.std.proofs.lemmas.Bool.{and_parts}
 use Rattle.wrap.specs.Columns.{is_space, is_tab, is_blank, is_break, is_control, columns_of}
 use Rattle.wrap.specs.Lines.{Line, Filling, up_from, keep, without_last, code_of, is_blank_letter, visible_cols, logical_lines, together, onto_token, tokenise, is_space_token, hard_break, no_lines, close, close_if, add, has_columns, put_chunk, put_chunks, add_or_break, passes, put_token, put_tokens, fill, filled, trim_trailing_space, wrap_runs}
 use Rattle.wrap.specs.Shown.{is_shown, shown}
@@ -50,7 +50,7 @@ module _ (ls : List Letter) where
   none_space : (l : Line) → is_space_token ls l ≡ true → shown ls l ≡ []
   unfolding shown is_space_token
   none_space [] e = refl
-  none_space (k ∷ l) e = let h = split (is_blank_letter ls k) (is_space_token ls l) e in rw h.0 (none_space l h.1)
+  none_space (k ∷ l) e = let h = and_parts (is_blank_letter ls k) (is_space_token ls l) e in rw h.0 (none_space l h.1)
 
   -- ---- all letters so far, line after line
 
@@ -122,7 +122,7 @@ module _ (ls : List Letter) where
     token_goes f t =
         cases (Goes f t) (eqb (visible_cols ls t) 0) _ _ (λ e. drops f f t refl (none_columns t (eqb-true _ _ e)))
         (λ _. cases (Goes f t) (is_space_token ls t && not (has_columns ls L f)) _ _
-        (λ e. drops f f t refl (none_space t (split (is_space_token ls t) (not (has_columns ls L f)) e).0))
+        (λ e. drops f f t refl (none_space t (and_parts (is_space_token ls t) (not (has_columns ls L f)) e).0))
         (λ _. cases (Goes f t) (passes ls L f t) _ _
         (λ _. cases (Goes f t) (is_space_token ls t) _ _
         (λ e. drops f (close f) t (close_laid f) (none_space t e))

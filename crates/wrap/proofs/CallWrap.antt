@@ -1,19 +1,17 @@
 -- All lines: where they lie, and then at the workspace's front; and what the call comes to.
 use mathlib.Core.Path.{◌≡◌, ◌∙◌, refl, sym, ap, ap₂}
-use mathlib.Core.Bool.{Bool, true, false, ◌||◌, true≢false}
+use mathlib.Core.Bool.{true, false}
 use mathlib.Core.List.{List, ◌++◌, flatten}
-use Prim.Native.Nat.{ℕ, ◌+◌, ◌*◌, ◌≤◌, ◌<◌}
+use Prim.Native.Nat.{ℕ, ◌+◌, ◌*◌, ◌≤◌}
 use native.Mathlib.Omega.{arith}
-use borrow.Author.Tests.{lt-ltb, le-ltb}
 use lib.ListN.{length, take, replicate}
 use lib.Seq.{sets, slice, take-append_seam}
 use Rattle.tape.specs.declared.Style.{Style}
-use Rattle.tape.specs.declared.Answer.{Answer}
 use Rattle.tape.specs.Command.{most_letters}
 use Rattle.tape.specs.Call.{nothing}
 use Rattle.tape.specs.Runs.{Letter}
 use Rattle.tape.specs.Style.{default_with}
-use Rattle.tape.specs.Outcome.{Outcome, on_accepted}
+use Rattle.tape.specs.Outcome.{Outcome, accepted, refused, on_accepted}
 use Rattle.tape.specs.Tape.{least_room, read_call}
 use Rattle.tape.proofs.Answers.{Read, letters_fit}
 use Rattle.tape.proofs.Calls.{Refuses, refuses, accepts}
@@ -21,10 +19,11 @@ use Rattle.tape.proofs.StoredLetters.{letter_is}
 use Rattle.wrap.specs.declared.line.Cursor.{Cursor}
 use Rattle.wrap.specs.declared.Lines.{Lines}
 use Rattle.wrap.specs.Lines.{Line, no_letter, without_last, is_empty_line, wrap_runs}
-use Rattle.wrap.specs.Wrap.{most_columns, caption_of, wrap_call, twos, line_table}
+use Rattle.wrap.specs.Wrap.{caption_of, wrap_call, twos, line_table}
 use Rattle.wrap.specs.Shown.{inked_letters}
 use Rattle.wrap.specs.Laid.{numbers_from, table_from, inked_from, inked_in, inked_totals, Holds, Laid, Brought}
 use Rattle.wrap.specs.Filled.{done, Held, Ended}
+use Rattle.wrap.specs.Limited.{is_no_limit}
 use Rattle.wrap.specs.Wrapped.{Wrapped}
 use Rattle.wrap.proofs.Lists.{last_front, last_short, last_all}
 use Rattle.wrap.proofs.InkCounts.{trim_ink, take_totals}
@@ -133,33 +132,25 @@ module _ (ls : List Letter) (limit : ℕ) (made : Lines) (ws : List ℕ) (laid :
 
 -- ---- the call
 
-pub or_none : (a b : Bool) → (a || b) ≡ false → (a ≡ false) × (b ≡ false)
-or_none true b e = absurd (true≢false e)
-or_none false b e = (refl, e)
-
 abbrev pub white : Style
 white = default_with (replicate 4 0xff)
 
 module _ (tape ws : List ℕ) (limit : ℕ) where
-  pub too_low : limit < 1 → Wrapped tape ws ws limit (Answer.Refused 8 0)
+  pub limit_refused : is_no_limit limit ≡ true → Wrapped tape ws ws limit (refused 8 0)
   unfolding wrap_call
-  too_low h = refuses (rw (lt-ltb limit 1 h)) (λ _. refl)
+  limit_refused e = refuses (rw e) (λ _. refl)
 
-  pub too_high : 1 ≤ limit → most_columns < limit → Wrapped tape ws ws limit (Answer.Refused 8 0)
-  unfolding wrap_call
-  too_high low h = refuses (rw (le-ltb limit 1 low, lt-ltb most_columns limit h)) (λ _. refl)
-
-  module _ (low : 1 ≤ limit) (high : limit ≤ most_columns) where
+  module _ (in_range : is_no_limit limit ≡ false) where
     admitted : {o : Outcome (List Letter)} → read_call white (length ws) tape ≡ o → wrap_call limit (length ws) tape ≡ on_accepted (caption_of limit) o
     unfolding wrap_call
-    admitted e = rw (le-ltb limit 1 low, le-ltb most_columns limit high, e)
+    admitted e = rw (in_range, e)
 
     pub tape_refused : {ws' : List ℕ} {number place : ℕ} → Refuses (read_call white (length ws) tape) nothing nothing ws ws' number place
-        → Wrapped tape ws ws' limit (Answer.Refused number place)
+        → Wrapped tape ws ws' limit (refused number place)
     tape_refused r = refuses (admitted r.means) r.keeps
 
     pub wrapped : {ws1 : List ℕ} {n : ℕ} (a : Read tape ws ws1 white n) (lines : ℕ) (ws' : List ℕ) → Brought a.given limit lines ws'
-        → Wrapped tape ws ws' limit (Answer.Accepted lines)
+        → Wrapped tape ws ws' limit (accepted lines)
     wrapped a lines ws' b = accepts (admitted a.means) b.count refl b.bytes
 
 -- the workspace holds the letters that were read

@@ -1,12 +1,11 @@
 -- The columns of letters and lines: of one letter, of two lines together, of a line that was closed.
-use mathlib.Core.Path.{◌≡◌, ◌∙◌, refl, sym, ap}
+use mathlib.Core.Path.{◌≡◌, refl}
 use mathlib.Core.Bool.{Bool, true, false, ◌&&◌, not}
 use mathlib.Core.List.{List, [], ◌∷◌, ◌++◌}
-use Prim.Native.Nat.{ℕ, zero, suc, ◌+◌, ◌≤◌}
+use Prim.Native.Nat.{ℕ, ◌+◌, ◌≤◌}
 use native.Mathlib.Omega.{arith}
-use lib.Dec.{eqb, ltb}
 use lib.ListN.{length}
-use borrow.Author.Tests.{ltb-false, lt-ltb, ne_eqb}
+use borrow.Author.Tests.{ltb-false}
 use Rattle.tape.specs.Runs.{Letter}
 use Rattle.wrap.specs.Columns.{is_control, is_tab, columns_of}
 use Rattle.wrap.specs.Lines.{Line, Filling, close_if, visible_cols, code_of, has_columns}
@@ -38,8 +37,3 @@ module _ (ls : List Letter) where
       by : (b : Bool) → has_columns ls L f ≡ b → visible_cols ls (close_if b f).line ≡ 0
       by true e = refl
       by false e = let h = ltb-false 0 (visible_cols ls f.line) e in omega arith
-
--- no columns, or some
-pub zero_test : (n : ℕ) → eqb n 0 ≡ not (ltb 0 n)
-zero_test zero = refl
-zero_test (suc n) = ne_eqb (suc n) 0 (λ z. omega arith) ∙ ap not (sym (lt-ltb 0 (suc n) (omega arith)))

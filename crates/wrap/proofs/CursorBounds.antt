@@ -1,12 +1,10 @@
 -- The bounds of a cursor are kept.
 use mathlib.Core.Path.{◌≡◌, refl}
 use mathlib.Core.Bool.{Bool, true, false, cond}
-use mathlib.Core.List.{List}
 use Prim.Native.Nat.{ℕ, ◌+◌, ◌≤◌, ◌<◌}
 use native.Mathlib.Omega.{arith}
-use lib.ListN.{length}
 use Rattle.wrap.specs.declared.line.Cursor.{Cursor}
-use Rattle.wrap.specs.Filled.{closed, Sane, Ready}
+use Rattle.wrap.specs.Filled.{closed, Sane}
 
 module _ (c : Cursor) (i : ℕ) (sane : Sane c i) where
   -- after more letters, which stand on no line
@@ -54,11 +52,3 @@ module _ (c : Cursor) (i : ℕ) (sane : Sane c i) where
   pub sane_if : (b : Bool) → (b ≡ true → 0 < c.columns) → Sane (cond b (closed c) c) i
   sane_if true h = sane_close (h refl)
   sane_if false h = sane
-
--- the letters from k up to m are next, on another line
-pub ready_on : {c c1 : Cursor} {ws ws1 : List ℕ} {i j limit : ℕ} → Ready c ws i j limit → (k m : ℕ) → k < m → m ≤ j → Sane c1 k
-    → length ws1 ≡ length ws → Ready c1 ws1 k m limit
-ready_on ready k m some to sane same =
-    let few = ready.few in
-    let room = ready.room in
-    record { sane = sane; some = some; few = omega arith; one = ready.one; most = ready.most; room = omega arith }

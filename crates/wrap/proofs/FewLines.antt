@@ -8,7 +8,7 @@ use lib.Dec.{eqb, leb, ltb}
 use lib.ListN.{length, length-append, length-map}
 use borrow.Author.Tests.{ltb-true, leb-true}
 use Rattle.tape.specs.Runs.{Letter}
-use Rattle.tape.proofs.EqualStyles.{split}
+use Rattle.std.proofs.lemmas.Bool.{and_parts}
 use Rattle.wrap.specs.Columns.{is_break}
 use Rattle.wrap.specs.Lines.{Line, Filling, up_from, onto_first, code_of, visible_cols, logical_lines, together, onto_token, tokenise, is_space_token, chunks, hard_break, no_lines, close, close_if, add, has_columns, put_chunk, put_chunks, add_or_break, passes, put_token, put_tokens, fill, trim_trailing_space, is_empty_line, without_last, wrap_runs}
 use Rattle.wrap.proofs.Lists.{cases, last_drop, last_short, length_up}
@@ -111,7 +111,7 @@ module _ (ls : List Letter) where
     token_few f t p h few =
         let on = few_on f p (p + length t) (omega arith) few in
         let next : passes ls L f t ≡ true → Few (close f) p =
-        λ e. close_if_few true f p (λ _. ltb-true 0 _ (split _ _ e).0) few in
+        λ e. close_if_few true f p (λ _. ltb-true 0 _ (and_parts _ _ e).0) few in
         cases (λ (g : Filling). Few g (p + length t)) (eqb (visible_cols ls t) 0) _ _ (λ _. on)
         (λ _. cases (λ (g : Filling). Few g (p + length t)) (is_space_token ls t && not (has_columns ls L f)) _ _ (λ _. on)
         (λ _. cases (λ (g : Filling). Few g (p + length t)) (passes ls L f t) _ _

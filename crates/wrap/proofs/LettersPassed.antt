@@ -2,7 +2,7 @@
 use mathlib.Core.Path.{◌≡◌, ◌∙◌, refl, sym, ap}
 use mathlib.Core.Bool.{Bool, true, false}
 use mathlib.Core.List.{List, [], ◌∷◌, flatten, map-append}
-use Prim.Native.Nat.{ℕ, ◌+◌, ◌-◌, ◌≤◌, ◌<◌}
+use Prim.Native.Nat.{ℕ, ◌+◌, ◌-◌, ◌<◌}
 use native.Mathlib.Omega.{arith}
 use lib.Dec.{ltb}
 use lib.ListN.{length}
@@ -11,11 +11,12 @@ use borrow.Author.Tests.{eq-eqb, ne_eqb, ltb-true, ltb-false}
 use Rattle.tape.specs.Runs.{Letter}
 use Rattle.tape.specs.Stored.{code_at}
 use Rattle.wrap.specs.declared.line.Cursor.{Cursor}
-use Rattle.wrap.specs.Lines.{Line, Filling, visible_cols, no_lines, close, close_if, put_token, filled, trim_trailing_space, is_empty_line, without_last, wrap_runs}
+use Rattle.wrap.specs.declared.token.Token.{Token}
+use Rattle.wrap.specs.Lines.{Line, Filling, code_of, visible_cols, no_lines, close, close_if, put_token, filled, trim_trailing_space, is_empty_line, without_last, wrap_runs}
 use Rattle.wrap.specs.Wrap.{twos, line_table}
 use Rattle.wrap.specs.Shown.{inked_letters}
 use Rattle.wrap.specs.Laid.{numbers_from, table_from, inked_from, inked_totals, Holds}
-use Rattle.wrap.specs.Filled.{between, end_of, done, Held, Sane, Closed, Turns, OneKind, Ended, Finished}
+use Rattle.wrap.specs.Filled.{between, end_of, numbers_of, Found, Whole, done, Held, Sane, Closed, Turns, Ended, Finished}
 use Rattle.wrap.proofs.Lists.{last_drop}
 use Rattle.wrap.proofs.CursorBounds.{sane_last}
 use Rattle.wrap.proofs.LoopTurns.{code_there}
@@ -89,17 +90,22 @@ module _ (count limit : ℕ) (ws : List ℕ) where
           u.2 ∙ go_break ls limit u.0 i (omega arith) (eq-eqb _ _ (code_there u.1.letters i (omega arith) ∙ e)),
         )
 
-    pub pass_token : i < count → (code_at ws1 i ≡ 0x0a → ⊥) → (j : ℕ) → i < j → j ≤ count
-        → ((ls : List Letter) → count ≡ length ls → Holds ls ws1 → j ≡ end_of ls i)
-        → Turns (OneKind i j) (λ (ls : List Letter) (f : Filling). put_token ls limit f (between i j)) j c ws1 c' ws2
-        → Sofar count limit ws j c' ws2
-    pass_token h e j ij jn found turns ls n held =
+    pub pass_token : (code_at ws1 i ≡ 0x0a → ⊥) → (t : Token) → Found ws1 i count t
+        → Turns t Whole (λ (ls : List Letter). put_token ls limit) c ws1 c' ws2 → Sofar count limit ws t.to c' ws2
+    pass_token e t found turns ls n held =
         let u = sofar ls n held in
-        let is = found ls n u.1.letters in (
-          put_token ls limit u.0 (between i j),
-          turns.held ls u.0 (omega arith) (go_kind ls limit i j ij (omega arith) is) u.1,
+        let from = found.from in
+        let to = found.to in
+        let some = t.some in
+        let is : t.to ≡ end_of ls t.from = rw from (found.end ls n u.1.letters) in (
+          put_token ls limit u.0 (numbers_of t),
+          turns.held ls u.0 (omega arith)
+              (record { tallied = found.tallied ls n u.1.letters; kind = go_kind ls limit t.from t.to t.some (omega arith) is })
+              u.1,
           u.2
-              ∙ go_token ls limit i j ij (omega arith) is u.0 (ne_eqb _ _ (λ z. e (sym (code_there u.1.letters i (omega arith)) ∙ z))),
+              ∙ ap (λ (x : ℕ). onward ls limit u.0 (between x (length ls))) (sym from)
+              ∙ go_token ls limit t.from t.to t.some (omega arith) is u.0
+              (ne_eqb _ _ (λ z. e (sym (code_there u.1.letters i (omega arith)) ∙ ap (code_of ls) (sym from) ∙ z))),
         )
 
     pub pass_end : i ≡ count → Sane c i → Closed (ltb c.start c.kept) c ws1 c' ws2 → Finished count limit ws c' ws2

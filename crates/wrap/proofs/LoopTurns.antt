@@ -7,17 +7,16 @@ use native.Mathlib.Omega.{arith}
 use lib.Dec.{eqb}
 use lib.ListN.{length, get_or, take}
 use lib.Seq.{slice, take-suc}
-use borrow.Author.Tests.{eq-eqb, ne_eqb}
+use borrow.Author.Tests.{ne_eqb}
 use Rattle.font.specs.Ink.{is_inked}
 use Rattle.tape.specs.Runs.{Letter}
 use Rattle.tape.specs.Stored.{letter_at, code_at}
-use Rattle.wrap.specs.declared.token.Tally.{Tally}
 use Rattle.wrap.specs.Columns.{is_space, is_blank, columns_of}
 use Rattle.wrap.specs.Lines.{Line, without_last, letter_of, code_of, is_blank_letter, visible_cols, trim_trailing_space, is_empty_line}
 use Rattle.wrap.specs.Wrap.{line_table}
 use Rattle.wrap.specs.Shown.{inked_letters}
 use Rattle.wrap.specs.Laid.{table_from, two_at, inked_in, Holds}
-use Rattle.wrap.specs.Filled.{between, goes_on, more, Tallied}
+use Rattle.wrap.specs.Filled.{between, goes_on, more}
 use Rattle.wrap.proofs.Lists.{last_drop, last_keep, between_first, between_more}
 use Rattle.wrap.proofs.ColumnCounts.{cols_append, cols_one}
 use Rattle.wrap.proofs.InkCounts.{ink_append}
@@ -46,7 +45,8 @@ module _ {ls : List Letter} {ws : List ℕ} (held : Holds ls ws) where
     unfolding more
     scan_goes e = rw (between_first j (length ls) jn, goes_there, e)
 
-  columns_more : (i k : ℕ) → i ≤ k → k < length ls
+  -- letter k is counted with those before
+  pub columns_more : (i k : ℕ) → i ≤ k → k < length ls
       → visible_cols ls (between i k) + columns_of (code_at ws k) ≡ visible_cols ls (between i (k + 1))
   columns_more i k h n =
       ap (λ (x : ℕ). visible_cols ls (between i k) + columns_of x) (sym (code_there k n))
@@ -54,7 +54,7 @@ module _ {ls : List Letter} {ws : List ℕ} (held : Holds ls ws) where
       ∙ sym (cols_append ls (between i k) (k ∷ []))
       ∙ ap (visible_cols ls) (sym (between_more i k h))
 
-  ink_more : (i k : ℕ) → i ≤ k → k < length ls → inked_in ls (between i k) + cond (is_inked (code_at ws k)) 1 0 ≡ inked_in ls (between i (k + 1))
+  pub ink_more : (i k : ℕ) → i ≤ k → k < length ls → inked_in ls (between i k) + cond (is_inked (code_at ws k)) 1 0 ≡ inked_in ls (between i (k + 1))
   unfolding inked_letters
   ink_more i k h n =
       ap (λ (x : ℕ). inked_in ls (between i k) + cond (is_inked x) 1 0) (sym (code_there k n))
@@ -62,30 +62,21 @@ module _ {ls : List Letter} {ws : List ℕ} (held : Holds ls ws) where
       ∙ sym (ink_append ls (between i k) (k ∷ []))
       ∙ ap (inked_in ls) (sym (between_more i k h))
 
-  -- letter k is counted with those before
-  pub tally_more : (i k : ℕ) (t r : Tally) → i ≤ k → k < length ls → Tallied t i k ls
-      → r.columns ≡ t.columns + columns_of (code_at ws k) → r.inked ≡ t.inked + cond (is_inked (code_at ws k)) 1 0 → Tallied r i (k + 1) ls
-  tally_more i k t r h n sofar columns inked =
-      record {
-        columns = columns ∙ ap (λ (x : ℕ). x + columns_of (code_at ws k)) sofar.columns ∙ columns_more i k h n;
-        inked = inked ∙ ap (λ (x : ℕ). x + cond (is_inked (code_at ws k)) 1 0) sofar.inked ∙ ink_more i k h n;
-      }
-
   -- whether the last letter is a space
   module _ (i end : ℕ) (h : i < end) (n : end ≤ length ls) where
     last_letter : between i end ≡ between i (end - 1) ++ ((end - 1) ∷ [])
     last_letter = let e : end ≡ end - 1 + 1 = omega arith in ap (between i) e ∙ between_more i (end - 1) (omega arith)
 
-    pub trim_stops : (code_at ws (end - 1) ≡ 0x20 → ⊥) → trim_trailing_space ls (between i end) ≡ between i end
+    pub trim_stops : is_space (code_at ws (end - 1)) ≡ false → trim_trailing_space ls (between i end) ≡ between i end
     trim_stops e =
         ap (trim_trailing_space ls) last_letter
-        ∙ last_keep (λ k. is_space (code_of ls k)) (between i (end - 1)) (end - 1) (ne_eqb _ _ (λ z. e (sym (code_there (end - 1) (omega arith)) ∙ z)))
+        ∙ last_keep (λ k. is_space (code_of ls k)) (between i (end - 1)) (end - 1) (ap is_space (code_there (end - 1) (omega arith)) ∙ e)
         ∙ sym last_letter
 
-    pub trim_goes : code_at ws (end - 1) ≡ 0x20 → trim_trailing_space ls (between i end) ≡ trim_trailing_space ls (between i (end - 1))
+    pub trim_goes : is_space (code_at ws (end - 1)) ≡ true → trim_trailing_space ls (between i end) ≡ trim_trailing_space ls (between i (end - 1))
     trim_goes e =
         ap (trim_trailing_space ls) last_letter
-        ∙ last_drop (λ k. is_space (code_of ls k)) (between i (end - 1)) (end - 1) (eq-eqb _ _ (code_there (end - 1) (omega arith) ∙ e))
+        ∙ last_drop (λ k. is_space (code_of ls k)) (between i (end - 1)) (end - 1) (ap is_space (code_there (end - 1) (omega arith)) ∙ e)
 
 -- ---- lines
 

@@ -7,10 +7,11 @@ use native.Mathlib.Omega.{arith}
 use lib.ListN.{length, take, drop}
 use borrow.Author.Tests.{not-true}
 use Rattle.tape.specs.Runs.{Letter}
-use Rattle.tape.proofs.EqualStyles.{split, beq_eq, beq_refl}
+use Rattle.std.specs.Cmp.{booleans_Decides, bool_eq_equiv}
+use Rattle.std.proofs.lemmas.Bool.{and_parts}
 use Rattle.wrap.specs.Columns.{is_break}
 use Rattle.wrap.specs.Lines.{Line, Filling, onto_first, letter_of, code_of, is_blank_letter, logical_lines, together, onto_token, tokenise, is_space_token, close, put_token, put_tokens, fill}
-use Rattle.wrap.specs.Filled.{between, goes_on, more, end_of, OneKind}
+use Rattle.wrap.specs.Filled.{between, goes_on, more, end_of}
 use Rattle.wrap.proofs.Lists.{cases, between_none, between_first, take_between, drop_between}
 
 first : List Line → Line
@@ -33,12 +34,12 @@ module _ (ls : List Letter) where
 
   goes_true : (b : Bool) (k : ℕ) → goes b k ≡ true → Goes b k
   goes_true b k e =
-      let p = split (not (is_break (code_of ls k))) (beq b (is_blank_letter ls k) && not (letter_of ls k).start) e in
-      let q = split (beq b (is_blank_letter ls k)) (not (letter_of ls k).start) p.1 in
-      record { letter = not-true _ p.0; kind = sym (beq_eq b (is_blank_letter ls k) q.0); mid = not-true _ q.1 }
+      let p = and_parts (not (is_break (code_of ls k))) (beq b (is_blank_letter ls k) && not (letter_of ls k).start) e in
+      let q = and_parts (beq b (is_blank_letter ls k)) (not (letter_of ls k).start) p.1 in
+      record { letter = not-true _ p.0; kind = sym ((booleans_Decides b (is_blank_letter ls k)).0 q.0); mid = not-true _ q.1 }
 
   together_goes : (b : Bool) (k m : ℕ) → is_blank_letter ls k ≡ b → Goes b m → together ls k m ≡ true
-  together_goes b k m e g = rw (e, g.kind, g.mid, beq_refl b)
+  together_goes b k m e g = rw (e, g.kind, g.mid, bool_eq_equiv.refl b)
 
   together_not : (b : Bool) (k m : ℕ) → is_blank_letter ls k ≡ b → is_break (code_of ls m) ≡ false → goes b m ≡ false → together ls k m ≡ false
   together_not b k m e x g = rw (← e, x) at g
@@ -186,7 +187,7 @@ module _ (ls : List Letter) where
           ∙ ap (λ (x : ℕ). i ∷ between (i + 1) x) found
           ∙ ap (λ (x : Line). i ∷ x) (sym (take_between (i + 1) m (length ls) (omega arith)))
 
-      pub go_kind : OneKind i j ls
+      pub go_kind : is_space_token ls (between i j) ≡ is_blank_letter ls i
       go_kind = ap (is_space_token ls) span ∙ kind_of_first i (left (i + 1))
 
       pub go_token : (f : Filling) → is_break (code_of ls i) ≡ false → onward f (left i) ≡ onward (put_token ls L f (between i j)) (left j)

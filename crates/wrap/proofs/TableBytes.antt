@@ -4,7 +4,9 @@ use mathlib.Core.List.{List, [], ◌∷◌, ◌++◌}
 use Prim.Native.Nat.{ℕ, zero, suc, ◌+◌, ◌*◌, ◌-◌, ◌≤◌, ◌<◌}
 use native.Mathlib.Omega.{arith}
 use lib.ListN.{length, get_or, take, drop, set, length-append}
-use lib.Seq.{sets, sets-eq, slice, get_or-set_other, get_or-take, get_or-drop, take-set-le, length-take-le, take_at, take-append_seam, drop-append-le, take-take, take-nil, take-suc, slice_empty, length-slice}
+use Rattle.std.specs.List.{copy_within}
+use Rattle.std.proofs.lemmas.List.{drop-take}
+use lib.Seq.{sets, sets-eq, slice, get_or-set_other, get_or-take, get_or-drop, take-set-le, length-take-le, take_at, take-append_seam, drop-append-le, take-take, length-slice}
 use Rattle.tape.specs.Runs.{Letter}
 use Rattle.tape.proofs.StoredRuns.{sets_append}
 use Rattle.wrap.specs.Lines.{Line, visible_cols}
@@ -109,14 +111,9 @@ slice_grow vs ws a m h =
     ∙ ap (drop a) (take_at (take (a + m) ws ++ vs) (drop (a + m + length vs) ws) (a + m + length vs) k)
     ∙ drop-append-le a (take (a + m) ws) vs (omega arith)
 
-drop_take : (a m : ℕ) (ws : List ℕ) → drop a (take (a + m) ws) ≡ take m (drop a ws)
-drop_take zero m ws = let e : 0 + m ≡ m = omega arith in rw e
-drop_take (suc a) m [] = let e : suc a + m ≡ suc (a + m) = omega arith in rw e (sym (take-nil m))
-drop_take (suc a) m (x ∷ ws) = let e : suc a + m ≡ suc (a + m) = omega arith in rw e (drop_take a m ws)
-
 -- the front of a part
 pub slice_less : (ws : List ℕ) (a m n : ℕ) → m ≤ n → slice a (a + m) ws ≡ take m (slice a (a + n) ws)
-slice_less ws a m n h = drop_take a m ws ∙ sym (take-take m n (drop a ws) h) ∙ ap (take m) (sym (drop_take a n ws))
+slice_less ws a m n h = drop-take a m ws ∙ sym (take-take m n (drop a ws) h) ∙ ap (take m) (sym (drop-take a n ws))
 
 -- a number in a part
 part_at : (ws : List ℕ) (a m x : ℕ) → x < m → get_or (slice a (a + m) ws) x 0 ≡ get_or ws (a + x) 0
@@ -144,34 +141,15 @@ write_more ws at i k h =
 
 -- ---- bytes moved down
 
-get_or_after : (vs ws : List ℕ) (at x : ℕ) → at + length vs ≤ x → get_or (sets ws at vs) x 0 ≡ get_or ws x 0
-get_or_after [] ws at x h = refl
-get_or_after (v ∷ vs) ws at x h = get_or_after vs (set ws at v) (suc at) x (omega arith) ∙ get_or-set_other ws at x v 0 (λ e. omega arith)
-
-slice_snoc : (ws : List ℕ) (a k : ℕ) → a + k < length ws → slice a (a + (k + 1)) ws ≡ slice a (a + k) ws ++ (get_or ws (a + k) 0 ∷ [])
-slice_snoc ws a k h =
-    let e : a + (k + 1) ≡ suc (a + k) = omega arith in
-    let n : length (take (a + k) ws) ≡ a + k = length-take-le (a + k) ws (omega arith) in
-    ap (λ (x : ℕ). slice a x ws) e
-    ∙ ap (drop a) (take-suc ws (a + k) 0 h)
-    ∙ drop-append-le a (take (a + k) ws) (get_or ws (a + k) 0 ∷ []) (omega arith)
-
-length_part : (ws : List ℕ) (a k : ℕ) → a + k ≤ length ws → length (slice a (a + k) ws) ≡ k
-length_part ws a k h = let e = length-slice a (a + k) ws h in omega arith
-
-pub move_none : (ws : List ℕ) (from to : ℕ) → ws ≡ sets ws to (slice from (from + 0) ws)
-move_none ws from to = let e : from + 0 ≡ from = omega arith in rw (e, slice_empty from ws)
-
-pub move_more : (ws : List ℕ) (from to k : ℕ) → to + k ≤ from → from + k < length ws →
-    let moved = sets ws to (slice from (from + k) ws) in
-    set moved (to + k) (get_or moved (from + k) 0) ≡ sets ws to (slice from (from + (k + 1)) ws)
-move_more ws from to k h r =
-    let part : List ℕ = slice from (from + k) ws in
-    let n : length part ≡ k = length_part ws from k (omega arith) in
-    ap (set (sets ws to part) (to + k)) (get_or_after part ws to (from + k) (omega arith))
-    ∙ ap (λ (x : ℕ). set (sets ws to part) (to + x) (get_or ws (from + k) 0)) (sym n)
-    ∙ sets_append ws to part (get_or ws (from + k) 0 ∷ [])
-    ∙ ap (sets ws to) (sym (slice_snoc ws from k r))
+-- bytes copied within a list lie there as if stored
+pub moved : (ws : List ℕ) (from to count : ℕ) → from + count ≤ length ws → to + count ≤ length ws
+    → copy_within ws from (from + count) to ≡ sets ws to (slice from (from + count) ws)
+moved ws from to count f t =
+    let part : List ℕ = slice from (from + count) ws in
+    let less : from + count - from ≡ count = omega arith in
+    let e = length-slice from (from + count) ws f in
+    let n : length part ≡ count = omega arith in
+    rw (less, ← drop-take from count ws) (sym (sets-eq part ws to (omega arith) ∙ ap (λ (x : ℕ). take to ws ++ part ++ drop (to + x) ws) n))
 
 -- two stores at the front, one behind the other
 pub front_two : (a b ws : List ℕ) → length a + length b ≤ length ws

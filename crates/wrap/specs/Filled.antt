@@ -1,16 +1,15 @@
 -- Promises: what the functions that fill lines ask of and tell each other. No reader of the deposit needs this file.
-use Rattle.std.specs.Prelude.{◌≡◌, Bool, ◌&&◌, not, cond, ℕ, suc, ◌+◌, ◌*◌, ◌-◌, ◌≤◌, ◌<◌, length}
+use Rattle.std.specs.Prelude.{◌≡◌, Option, None, Some, Bool, ◌&&◌, not, cond, ℕ, suc, ◌+◌, ◌*◌, ◌-◌, ◌≤◌, ◌<◌, length}
 use Rattle.std.specs.Bool.{beq}
 use mathlib.Core.List.{List, [], ◌∷◌, ◌++◌, map, flatten}
 use Rattle.std.proofs.Math.Seq.{slice}
-use Rattle.tape.specs.Command.{most_letters}
 use Rattle.tape.specs.Runs.{Letter}
 use Rattle.tape.specs.Tape.{least_room}
 use Rattle.wrap.specs.declared.line.Cursor.{Cursor}
-use Rattle.wrap.specs.declared.token.Tally.{Tally}
+use Rattle.wrap.specs.declared.token.Token.{Token}
 use Rattle.wrap.specs.Columns.{is_break, is_blank}
 use Rattle.wrap.specs.Lines.{Line, Filling, up_from, letter_of, code_of, is_blank_letter, visible_cols, is_space_token, close_if, trim_trailing_space, is_empty_line, without_last, wrap_runs}
-use Rattle.wrap.specs.Wrap.{most_columns, twos, line_table}
+use Rattle.wrap.specs.Wrap.{twos, line_table}
 use Rattle.wrap.specs.Laid.{numbers_from, table_from, inked_from, inked_in, inked_totals, Holds}
 
 -- the letters from i to j
@@ -29,6 +28,50 @@ more ls b (k ∷ ks) = cond (goes_on b (letter_of ls k).start (code_of ls k)) (s
 -- where the token ends that begins with letter i
 abbrev pub end_of : List Letter → ℕ → ℕ
 end_of ls i = i + 1 + more ls (is_blank_letter ls i) (between (i + 1) (length ls))
+
+-- ---- tokens
+
+-- the numbers of its letters
+abbrev pub numbers_of : Token → Line
+numbers_of t = between t.from t.to
+
+-- these letters' columns and ink were counted
+pub record Tallied (t : Token) (ls : List Letter) : Type 0 where
+  pub columns : t.columns ≡ visible_cols ls (numbers_of t)
+  pub inked : t.inked ≡ inked_in ls (numbers_of t)
+
+-- and they are all of one kind, that of the first
+pub record Whole (t : Token) (ls : List Letter) : Type 0 where
+  pub tallied : Tallied t ls
+  pub kind : is_space_token ls (numbers_of t) ≡ is_blank_letter ls t.from
+
+-- nothing is asked of the letters
+abbrev pub Any : Token → List Letter → Type 0
+Any t ls = Unit
+
+-- the letters from i to j
+pub record Made (ws : List ℕ) (i j : ℕ) (t : Token) : Type 0 where
+  pub from : t.from ≡ i
+  pub to : t.to ≡ j
+  pub tallied : (ls : List Letter) → j ≤ length ls → Holds ls ws → Tallied t ls
+
+-- the token that begins with letter i
+pub record Found (ws : List ℕ) (i count : ℕ) (t : Token) : Type 0 where
+  pub from : t.from ≡ i
+  pub to : t.to ≤ count
+  pub tallied : (ls : List Letter) → count ≡ length ls → Holds ls ws → Tallied t ls
+  pub end : (ls : List Letter) → count ≡ length ls → Holds ls ws → t.to ≡ end_of ls i
+
+-- the first letters of t
+pub record Cut (t : Token) (ws : List ℕ) (kept : Token) : Type 0 where
+  pub from : kept.from ≡ t.from
+  pub to : kept.to ≤ t.to
+  pub tallied : (ls : List Letter) → t.to ≤ length ls → Holds ls ws → Tallied t ls → Tallied kept ls
+
+-- what is left of t without its trailing spaces
+abbrev pub Trimmed : Token → List ℕ → Option Token → Type 0
+Trimmed t ws (Some kept) = Cut t ws kept × ((ls : List Letter) → t.to ≤ length ls → Holds ls ws → trim_trailing_space ls (numbers_of t) ≡ numbers_of kept)
+Trimmed t ws None = (ls : List Letter) → t.to ≤ length ls → Holds ls ws → trim_trailing_space ls (numbers_of t) ≡ []
 
 -- ---- the cursor
 
@@ -88,13 +131,9 @@ pub record Sane (c : Cursor) (i : ℕ) : Type 0 where
   pub busy : 0 < c.columns → c.lines < i
   pub some : c.start < c.kept → c.lines < i
 
--- the letters from i to j are next
-pub record Ready (c : Cursor) (ws : List ℕ) (i j limit : ℕ) : Type 0 where
-  pub sane : Sane c i
-  pub some : i < j
-  pub few : j ≤ most_letters
-  pub one : 1 ≤ limit
-  pub most : limit ≤ most_columns
+-- these letters are next
+pub record Ready (c : Cursor) (ws : List ℕ) (t : Token) : Type 0 where
+  pub sane : Sane c t.from
   pub room : least_room ≤ length ws
 
 -- ---- what is told
@@ -104,25 +143,11 @@ pub record Closed (b : Bool) (c : Cursor) (ws : List ℕ) (c' : Cursor) (ws' : L
   pub cursor : c' ≡ cond b (closed c) c
   pub held : (ls : List Letter) (f : Filling) → Held ls f c ws → Held ls (close_if b f) c' ws'
 
--- The letters before j have been passed, and a filling became what `step` makes of it, where `known` holds of the
--- letters.
-pub record Turns (known : List Letter → Type 0) (step : List Letter → Filling → Filling) (j : ℕ)
+-- These letters have been passed, and a filling became what `step` makes of it, where `known` holds of them.
+pub record Turns (t : Token) (known : Token → List Letter → Type 0) (step : List Letter → Filling → Line → Filling)
     (c : Cursor) (ws : List ℕ) (c' : Cursor) (ws' : List ℕ) : Type 0 where
-  pub sane : Sane c' j
-  pub held : (ls : List Letter) (f : Filling) → j ≤ length ls → known ls → Held ls f c ws → Held ls (step ls f) c' ws'
-
--- nothing is asked of the letters
-abbrev pub Any : List Letter → Type 0
-Any ls = Unit
-
--- a tally of the letters from i to j
-pub record Tallied (t : Tally) (i j : ℕ) (ls : List Letter) : Type 0 where
-  pub columns : t.columns ≡ visible_cols ls (between i j)
-  pub inked : t.inked ≡ inked_in ls (between i j)
-
--- these letters are all of one kind, that of the first
-abbrev pub OneKind : ℕ → ℕ → List Letter → Type 0
-OneKind i j ls = is_space_token ls (between i j) ≡ is_blank_letter ls i
+  pub sane : Sane c' t.to
+  pub held : (ls : List Letter) (f : Filling) → t.to ≤ length ls → known t ls → Held ls f c ws → Held ls (step ls f (numbers_of t)) c' ws'
 
 -- every line that the caption keeps is closed: of the last there is nothing left but spaces
 pub record Ended (ls : List Letter) (limit : ℕ) (c : Cursor) (ws : List ℕ) : Type 0 where

@@ -6,4 +6,5 @@ pub mod Wrap
 pub mod Wrapped
 pub mod Shown
 pub mod Laid
+pub mod Limited
 pub mod Filled

@@ -1,5 +1,5 @@
 // Lines where they lie in the workspace: the numbers of the letters on them, the table, and the totals
-// of letters with ink.
+// of letters with ink. That a line lies in what is lent is asked of each caller, by its number.
 ghost use Rattle.std.specs.Prelude.{◌≡◌, ◌+◌, ◌*◌, ◌≤◌, ◌<◌, length};
 ghost use Rattle.wrap.specs.Laid.{numbers_from, table_from, inked_from, two_byte_numbers, two_at, number_at, letters_on, columns_on, inked_through};
 
@@ -12,15 +12,16 @@ pub const TABLE: usize = 40960;
 // Where the totals of letters with ink begin, two bytes for each line.
 pub const INKED: usize = 57344;
 
-// A number in two bytes, high byte first.
+// A number in two bytes, high byte first: one line over the library, as `report` has it for programs.
 fn two_at(ws: &[u8], at: usize) -> usize
     requires { at + 2 ≤ length ws.now }
     ensures { (result ≡ two_at ws.now at) × (result < two_byte_numbers) }
 {
-    tape::wide(ws[at]) as usize * 256 + tape::wide(ws[at + 1]) as usize
+    usize::from(u16::from_be_bytes([ws[at], ws[at + 1]]))
 }
 
-// The number of the k-th letter on lines.
+// The number of the k-th letter on lines. Here and below each place has a function of its own, which
+// its promise names.
 pub fn number(ws: &[u8], k: usize) -> usize
     requires { numbers_from + 2 * k + 2 ≤ length ws.now }
     ensures { result ≡ number_at ws.now k }

@@ -3,27 +3,29 @@
 // in specs/. `ws` is the workspace throughout: letters from its start, the numbers of the letters on
 // lines from `laid::NUMBERS`, two bytes each, the table of lines from `laid::TABLE`, four bytes each,
 // and from `laid::INKED`, two bytes for each line, how many letters with ink are on the lines so far.
+// It stays a slice with its room in clauses, since `Wrapped` and `Laid` speak of all that a caller lends; how many
+// letters it holds stays a number, since that is what `read_tape` answers.
 #![tactic(auto)]
 
 mod fill;
 pub mod laid;
+mod limit;
 mod line;
 mod token;
 
-ghost use Rattle.std.specs.Prelude.{◌≡◌, List, ◌+◌, ◌*◌, ◌≤◌, ◌<◌, length, ◌==◌};
-ghost use Rattle.std.proofs.lemmas.List.Edits.{sets};
+ghost use Rattle.std.specs.Prelude.{◌≡◌, List, ◌+◌, ◌*◌, ◌≤◌, length, ◌==◌};
 ghost use Rattle.std.proofs.Math.Seq.{slice};
+ghost use Rattle.tape.specs.Answer.{outcome_of};
 ghost use Rattle.tape.specs.Command.{most_letters};
 ghost use Rattle.tape.specs.Runs.{Letter};
 ghost use Rattle.tape.specs.Tape.{least_room};
 ghost use Rattle.wrap.specs.Lines.{Line, is_empty_line, without_last};
-ghost use Rattle.wrap.specs.Wrap.{most_columns, line_table};
+ghost use Rattle.wrap.specs.Wrap.{line_table};
 ghost use Rattle.wrap.specs.Laid.{table_from, letters_on, Holds, Laid, Brought};
 ghost use Rattle.wrap.specs.Wrapped.{Wrapped};
 
+pub use limit::Limit;
 use tape::{Answer, Style};
-
-const MOST_COLUMNS: u32 = 4096;
 
 // How many lines there are, letters on them, and letters with ink.
 #[derive(Clone, Copy)]
@@ -43,22 +45,23 @@ fn is_empty_line(ws: &[u8], line: usize) -> bool
 // How many of these lines there are without the empty ones at their end.
 fn drop_empty_lines(ws: &[u8], lines: usize) -> usize
     requires { table_from + 4 * lines ≤ length ws.now }
-    ensures { (result ≤ lines) × ((ls : List Letter) (ds : List Line) → lines ≡ length ds → slice table_from (table_from + 4 * lines) ws.now ≡ line_table ls ds → result ≡ length (without_last is_empty_line ds)) }
+    ensures { (result ≤ lines) × ((ls : List Letter) (ds : List Line) → lines ≡ length ds
+        → slice table_from (table_from + 4 * lines) ws.now ≡ line_table ls ds
+        → result ≡ length (without_last is_empty_line ds)) }
 {
-    let mut left = lines;
-    while 0 < left {
-        if !is_empty_line(ws, left - 1) {
-            return left;
+    for line in (0..lines).rev() {
+        if !is_empty_line(ws, line) {
+            return line + 1;
         }
-        left -= 1;
     }
-    left
+    0
 }
 
 // Puts the letters of the workspace on lines of at most `limit` columns.
-pub fn wrap_runs(ws: &mut [u8], count: usize, limit: usize) -> Lines
-    requires { (count ≤ most_letters) × (1 ≤ limit) × (limit ≤ most_columns) × (least_room ≤ length ws.old) }
-    ensures { (result.lines ≤ count) × (result.letters ≤ count) × (result.inked ≤ count) × ((ls : List Letter) → count ≡ length ls → Holds ls ws.old → Laid ls limit result ws.new) }
+pub fn wrap_runs(ws: &mut [u8], count: usize, limit: Limit) -> Lines
+    requires { (count ≤ most_letters) × (least_room ≤ length ws.old) }
+    ensures { (result.lines ≤ count) × (result.letters ≤ count) × (result.inked ≤ count)
+        × ((ls : List Letter) → count ≡ length ls → Holds ls ws.old → Laid ls limit.columns result ws.new) }
 {
     let end = fill::fill(ws, count, limit);
     Lines {
@@ -68,43 +71,24 @@ pub fn wrap_runs(ws: &mut [u8], count: usize, limit: usize) -> Lines
     }
 }
 
-// Moves bytes down, to a place that is far enough before them.
-fn move_down(ws: &mut [u8], from: usize, to: usize, count: usize)
-    requires { (to + count ≤ from) × (from + count ≤ length ws.old) }
-    ensures { ws.new ≡ sets ws.old to (slice from (from + count) ws.old) }
-{
-    let mut k: usize = 0;
-    while k < count {
-        ws[to + k] = ws[from + k];
-        k += 1;
-    }
-}
-
 // Wraps the letters of the workspace, and moves their lines to its front.
-fn bring_lines(ws: &mut [u8], count: usize, limit: usize) -> usize
-    requires { (count ≤ most_letters) × (1 ≤ limit) × (limit ≤ most_columns) × (least_room ≤ length ws.old) }
-    ensures { (ls : List Letter) → count ≡ length ls → Holds ls ws.old → Brought ls limit result ws.new }
+fn bring_lines(ws: &mut [u8], count: usize, limit: Limit) -> usize
+    requires { (count ≤ most_letters) × (least_room ≤ length ws.old) }
+    ensures { (ls : List Letter) → count ≡ length ls → Holds ls ws.old → Brought ls limit.columns result ws.new }
 {
     let made = wrap_runs(ws, count, limit);
     let table = 4 * made.lines;
-    move_down(ws, laid::TABLE, 0, table);
-    move_down(ws, laid::NUMBERS, table, 2 * made.letters);
+    ws.copy_within(laid::TABLE..laid::TABLE + table, 0);
+    ws.copy_within(laid::NUMBERS..laid::NUMBERS + 2 * made.letters, table);
     made.lines
 }
 
 // The call Wrap: the workspace then begins with each line's letters and columns, two bytes each, high
 // byte first, and then the numbers of the letters on lines.
 pub fn wrap(tape: &[u8], ws: &mut [u8], limit: u32) -> Answer
-    ensures { Wrapped tape.now ws.old ws.new limit result }
+    ensures { Wrapped tape.now ws.old ws.new limit (outcome_of result) }
 {
-    if limit < 1 {
-        return Answer::Refused(8, 0);
-    }
-    if MOST_COLUMNS < limit {
-        return Answer::Refused(8, 0);
-    }
-    match tape::read_tape(tape, ws, Style::default_with([0xff; 4])) {
-        Answer::Accepted(count) => Answer::Accepted(bring_lines(ws, count, limit as usize)),
-        Answer::Refused(number, place) => Answer::Refused(number, place),
-    }
+    let limit = Limit::try_from(limit)?;
+    let count = tape::read_tape(tape, ws, Style::default_with([0xff; 4]))?;
+    Ok(bring_lines(ws, count, limit))
 }

@@ -4,39 +4,37 @@ ghost use Rattle.std.proofs.lemmas.List.Edits.{sets};
 ghost use Rattle.tape.specs.Command.{most_letters};
 ghost use Rattle.tape.specs.Runs.{Letter};
 ghost use Rattle.tape.specs.Tape.{least_room};
-ghost use Rattle.wrap.specs.Lines.{Filling, add, trim_trailing_space};
+ghost use Rattle.wrap.specs.Lines.{add, trim_trailing_space};
 ghost use Rattle.wrap.specs.Wrap.{most_columns, two, twos};
 ghost use Rattle.wrap.specs.Laid.{two_byte_numbers, Holds};
-ghost use Rattle.wrap.specs.Filled.{between, added, Sane, Closed, Turns, Tallied};
+ghost use Rattle.wrap.specs.Filled.{numbers_of, added, Sane, Ready, Closed, Turns, Tallied};
 
 use crate::laid::{INKED, NUMBERS, TABLE};
-use crate::token;
-use crate::token::Tally;
+use crate::limit::Limit;
+use crate::token::Token;
 
+// Writes a number in two bytes, high byte first: one line over the library.
 fn put_two(ws: &mut [u8], at: usize, v: usize)
     requires { (at + 2 ≤ length ws.old) × (v < two_byte_numbers) }
     ensures { ws.new ≡ sets ws.old at (two v) }
 {
-    ws[at] = (v / 256) as u8;
-    ws[at + 1] = (v % 256) as u8;
+    ws[at..at + 2].copy_from_slice(&(v as u16).to_be_bytes());
 }
 
-// Writes the numbers from i up to j.
-fn put_numbers(ws: &mut [u8], at: usize, i: usize, j: usize)
-    requires { (i ≤ j) × (j ≤ two_byte_numbers) × (at + 2 * (j - i) ≤ length ws.old) }
-    ensures { ws.new ≡ sets ws.old at (twos (between i j)) }
+// Writes the numbers of these letters.
+fn put_numbers(ws: &mut [u8], at: usize, token: Token)
+    requires { at + 2 * (token.to - token.from) ≤ length ws.old }
+    ensures { ws.new ≡ sets ws.old at (twos (numbers_of token)) }
 {
-    let mut k = i;
-    while k < j {
-        put_two(ws, at + 2 * (k - i), k);
-        k += 1;
+    for k in token.from..token.to {
+        put_two(ws, at + 2 * (k - token.from), k);
     }
 }
 
 // How many lines are closed; among the numbers, where the line being filled starts, where it ends,
 // and where it ends without its trailing spaces; its columns, and those without these spaces; and how
 // many letters with ink are on it and the lines before.
-#[derive(Clone, Copy)]
+#[derive(Clone, Copy, Default)]
 pub struct Cursor {
     pub lines: usize,
     pub start: usize,
@@ -76,43 +74,36 @@ impl Cursor {
         if full { self.close(ws) } else { self }
     }
 
-    // The cursor behind the letters from i up to j.
-    fn behind(self, ws: &[u8], i: usize, j: usize, t: Tally) -> Cursor
-        requires { Sane self i × (i < j) × (j ≤ most_letters) × (t.columns ≤ j - i) × (t.inked ≤ j - i) × (8 * j ≤ length ws.now) }
-        ensures { Sane result j × ((ls : List Letter) → j ≤ length ls → Tallied t i j ls → Holds ls ws.now → result ≡ added ls self (between i j) (trim_trailing_space ls (between i j))) }
+    // The cursor behind these letters.
+    fn behind(self, ws: &[u8], token: Token) -> Cursor
+        requires { Sane self token.from × (8 * token.to ≤ length ws.now) }
+        ensures { Sane result token.to
+            × ((ls : List Letter) → token.to ≤ length ls → Tallied token ls → Holds ls ws.now
+            → result ≡ added ls self (numbers_of token) (trim_trailing_space ls (numbers_of token))) }
     {
         let after = Cursor {
-            end: self.end + (j - i),
-            columns: self.columns + t.columns,
-            inked: self.inked + t.inked,
+            end: self.end + (token.to - token.from),
+            columns: self.columns + token.columns,
+            inked: self.inked + token.inked,
             ..self
         };
-        let trimmed = token::trim_trailing_space(ws, i, j);
-        if trimmed == j {
-            return Cursor {
-                kept: after.end,
-                kept_columns: after.columns,
+        match token.trim_trailing_space(ws) {
+            Some(kept) => Cursor {
+                kept: self.end + (kept.to - kept.from),
+                kept_columns: self.columns + kept.columns,
                 ..after
-            };
+            },
+            None => after,
         }
-        if i < trimmed {
-            let some = token::tally_of(ws, i, trimmed);
-            return Cursor {
-                kept: self.end + (trimmed - i),
-                kept_columns: self.columns + some.columns,
-                ..after
-            };
-        }
-        after
     }
 
-    // Adds the letters from i up to j to the line.
-    pub fn add(self, ws: &mut [u8], i: usize, j: usize, t: Tally) -> Cursor
-        requires { Sane self i × (i < j) × (j ≤ most_letters) × (t.columns ≤ j - i) × (t.inked ≤ j - i) × (least_room ≤ length ws.old) }
-        ensures { Turns (Tallied t i j) (λ (ls : List Letter) (f : Filling). add f (between i j)) j self ws.old result ws.new }
+    // Adds these letters to the line.
+    pub fn add(self, ws: &mut [u8], token: Token) -> Cursor
+        requires { Ready self ws.old token }
+        ensures { Turns token Tallied (λ (ls : List Letter). add) self ws.old result ws.new }
     {
-        let after = self.behind(ws, i, j, t);
-        put_numbers(ws, NUMBERS + 2 * self.end, i, j);
+        let after = self.behind(ws, token);
+        put_numbers(ws, NUMBERS + 2 * self.end, token);
         after
     }
 
@@ -120,17 +111,14 @@ impl Cursor {
     pub fn drops(self, space: bool) -> bool
         ensures { result ≡ (space && not (nat_lt 0 self.columns)) }
     {
-        if space { self.columns == 0 } else { false }
+        space && self.columns == 0
     }
 
     // Whether the line has columns, and with so many more would pass the limit.
-    pub fn passes(self, columns: usize, limit: usize) -> bool
+    pub fn passes(self, columns: usize, limit: Limit) -> bool
         requires { self.columns + columns ≤ 2 * most_columns }
-        ensures { result ≡ (nat_lt 0 self.columns && nat_lt limit (self.columns + columns)) }
+        ensures { result ≡ (nat_lt 0 self.columns && nat_lt limit.columns (self.columns + columns)) }
     {
-        if 0 < self.columns {
-            return limit < self.columns + columns;
-        }
-        false
+        0 < self.columns && limit.columns < self.columns + columns
     }
 }

@@ -1,5 +1,5 @@
-//! Records and choices that the code declares: the definitions speak of them, so they are shown in
-//! the definitions' own notation.
+//! Records that the code declares: the definitions speak of them, so they are shown in the
+//! definitions' own notation.
 
 use std::fs;
 use std::path::Path;
@@ -14,10 +14,10 @@ pub fn show(root: &Path, of: &str, path: &[String]) -> Result<String, String> {
     };
     let code = fs::read_to_string(root.join(&file)).map_err(|fault| format!("{file}: {fault}"))?;
     let lines: Vec<&str> = code.lines().collect();
-    let opened = ["struct", "enum"].map(|kind| format!("pub {kind} {name} {{"));
+    let opened = format!("pub struct {name} {{");
     let at = lines
         .iter()
-        .position(|line| opened.iter().any(|opened| line == opened))
+        .position(|line| *line == opened)
         .ok_or(format!("{file} declares no {name}"))?;
     // What the compiler derives for it stands between.
     let comment = lines[..at]
@@ -28,14 +28,11 @@ pub fn show(root: &Path, of: &str, path: &[String]) -> Result<String, String> {
     let mut shown: Vec<String> = comment.map(|line| line.replacen("//", "--", 1)).collect();
     shown.push(String::new());
     shown.reverse();
-    let is_record = lines[at].starts_with("pub struct");
-    let kind = if is_record { "record" } else { "data" };
-    shown.push(format!("{kind} {name} where"));
+    shown.push(format!("record {name} where"));
     for line in lines[at + 1..].iter().take_while(|line| **line != "}") {
         shown.push(match line.trim().strip_prefix("//") {
             Some(comment) => format!("  --{comment}"),
-            None if is_record => field(line)?,
-            None => case(line, name)?,
+            None => field(line)?,
         });
     }
     Ok(shown.join("\n") + "\n")
@@ -54,14 +51,6 @@ fn field(line: &str) -> Result<String, String> {
         format!("  -- {note}")
     };
     Ok(format!("  {name} : {of}{note}"))
-}
-
-/// A case of a choice.
-fn case(line: &str, name: &str) -> Result<String, String> {
-    let line = line.trim().trim_end_matches(',').trim_end_matches(')');
-    let (case, holds) = line.split_once('(').ok_or(format!("`{line}` is no case"))?;
-    let holds: Vec<&str> = holds.split(", ").map(|of| type_of(of).0).collect();
-    Ok(format!("  {case} : {} → {name}", holds.join(" → ")))
 }
 
 /// A type as definitions write it, and what is to be known of its numbers.

@@ -1,25 +1,13 @@
--- `glyph_rows` meets its contract: after r turns the first r rows are those of the table.
-use Rattle.std.proofs.Common.{◌≡◌, refl, arith, length-set, lt-ltb}
-use Rattle.font.specs.Font.{tabulate}
-use Rattle.font.proofs.ArrayFill.{fill_step, fill_end}
-use Rattle.font.proofs.glyph_rows.Invariants.{row_at}
+-- `glyph_rows` meets its contract: the rows are cut out of the table.
+use Rattle.std.proofs.Common.{◌+◌, ◌*◌, ℕ, List, get_or, get_or-drop, get_or-take, ◌∙◌, ap, arith, lt-ltb}
+use Rattle.font.proofs.ArrayFill.{tabulated}
 use Rattle.font.proofs.glyph_rows.Goals as goal
-
-pub loop-r-init : goal.loop-r-init
-unfolding tabulate
-loop-r-init c = (omega arith, refl, refl)
-
-pub loop-r-preserved : goal.loop-r-preserved
-loop-r-preserved c =
-    let l = c.loop-r in (
-      omega arith,
-      simp length-set l.invariant.1,
-      fill_step (row_at c.args.table.now c.drawn_code-code.result) l.rows l.r _ (omega arith) l.invariant.2 refl,
-    )
 
 pub returns : goal.returns
 returns c =
-    let l = c.loop-r in
-    let e : l.r ≡ 16 = omega arith in
+    let table = c.args.table.now in
+    let at = c.drawn_code-code.result * 16 in
+    let cut = c.copy_from_slice.ensures in
     rw (← c.drawn_code-code.ensures, lt-ltb _ _ c.if-code-ge256.false)
-    (fill_end (row_at c.args.table.now c.drawn_code-code.result) l.rows 16 l.invariant.1 (rw e at l.invariant.2))
+    (tabulated (λ r. get_or table (at + r) 0) 16 _ cut.len
+    (λ k h. ap (λ (l : List ℕ). get_or l k 0) cut.after ∙ get_or-take _ _ k 0 (omega arith) ∙ get_or-drop at table k 0))

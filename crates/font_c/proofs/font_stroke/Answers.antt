@@ -1,9 +1,5 @@
 -- `font_stroke` meets its contract: all sixteen rows are the stroke.
-use mathlib.Core.Path.{◌≡◌, ◌∙◌, ap}
-use mathlib.Core.Bool.{Bool, cond}
-use mathlib.Core.List.{List}
-use Prim.Native.Nat.{ℕ, ◌*◌}
-use lib.ListN.{length}
+use Rattle.std.proofs.Common.{◌≡◌, ◌∙◌, ap, Bool, cond, List, ℕ, ◌*◌, length}
 use Rattle.font.specs.Font.{table_of, glyph_rows}
 use Rattle.font.specs.Colors.{color_bytes}
 use Rattle.font.specs.Slant.{row_offsets}

@@ -12,56 +12,58 @@ use borrow.Author.Rules.{rules}
 use Rattle.job.proofs.work_laid.Goals as goal
 use Rattle.job.proofs.work_laid.Goals.{Else-count-stripe, Else-is_unsound, Start}
 
-few : (c : Start) → length (division_of c.args.job.stripes) ≤ most_stripes
-few c = stripes_few c.args.s _ c.requires.stripes
+few : (c : Start) → length (division_of c.args.job.now.stripes) ≤ most_stripes
+few c = stripes_few c.args.laid.layout.settings _ c.requires.stripes
 
 -- the record has as many stripes as it counts, and 64 counters
-counted : (c : Start) → length (division_of c.args.job.stripes) ≡ c.args.job.stripes.stripe_count
+counted : (c : Start) → length (division_of c.args.job.now.stripes) ≡ c.args.job.now.stripes.stripe_count
 counted c =
-    let long : length c.args.job.stripes.end_rows ≡ most_stripes = search rules in
-    all_counted c.args.job.stripes long (few c)
+    let long : length c.args.job.now.stripes.end_rows ≡ most_stripes = search rules in
+    all_counted c.args.job.now.stripes long (few c)
 
-long : (c : Start) → length c.args.job.counters ≡ most_stripes
+long : (c : Start) → length c.args.job.now.counters ≡ most_stripes
 long c = search rules
 
 -- the record is sound
 sound : (c : Else-is_unsound) →
     let a = c.args in
-    counters_unsound (division_of a.job.stripes) (length (strokes_in a.s a.ws.now a.lines)) 0 a.job.counters ≡ false
+    counters_unsound (division_of a.job.now.stripes) (length (strokes_in a.laid.layout.settings a.ws.now a.laid.lines)) 0 a.job.now.counters ≡ false
 sound c =
     rw (← c.requires.counts) (sym c.is_unsound.ensures ∙ c.if-is_unsound.false)
 
 -- the stripe is there, and its counter is small enough
 there : (c : Else-count-stripe) →
     let a = c.args in
-    has_stripe (division_of a.job.stripes) a.stripe ≡ true
+    has_stripe (division_of a.job.now.stripes) a.stripe ≡ true
 unfolding has_stripe
 there c =
     let a = c.args in
-    lt-ltb a.stripe (length (division_of a.job.stripes)) (omega (arith, counted (goal.at.Else-count-stripe c).Start, c.if-count-stripe.false))
+    lt-ltb a.stripe (length (division_of a.job.now.stripes)) (omega (arith, counted (goal.at.Else-count-stripe c).Start, c.if-count-stripe.false))
 
 small : (c : Else-count-stripe) →
     let a = c.args in
-    counter_of a.job a.stripe ≤ a.total
+    counter_of a.job.now a.stripe ≤ a.laid.strokes
 small c =
     let a = c.args in
-    let k = stripe_low a.s _ c.requires.stripes a.stripe (there c) in
+    let k = stripe_low a.laid.layout.settings _ c.requires.stripes a.stripe (there c) in
     let n = long (goal.at.Else-count-stripe c).Start in
-    rw c.requires.counts (counter_small _ _ a.job.counters a.stripe (sound (goal.at.Else-count-stripe c).Else-is_unsound) (omega arith) (there c))
+    rw c.requires.counts (counter_small _ _ a.job.now.counters a.stripe (sound (goal.at.Else-count-stripe c).Else-is_unsound) (omega arith) (there c))
 
 pub is_unsound-requires : goal.is_unsound-requires
 is_unsound-requires c = few (goal.at.is_unsound-requires c).Start
 
 pub returns-then-is_unsound : goal.returns-then-is_unsound
 returns-then-is_unsound c =
-    unsound c.args.s _ _ _ _ _ _ (rw (← c.requires.counts) (sym c.is_unsound.ensures ∙ c.if-is_unsound.true))
+    rw c.at.ensures (unsound c.args.laid.layout.settings _ _ _ _ _ _ (rw (← c.requires.counts) (sym c.is_unsound.ensures ∙ c.if-is_unsound.true)))
 
 pub returns-then-count-stripe : goal.returns-then-count-stripe
 unfolding has_stripe
 returns-then-count-stripe c =
     let a = c.args in
-    no_stripe a.s _ _ _ _ _ _ (sound (goal.at.returns-then-count-stripe c).Else-is_unsound)
-    (le-ltb a.stripe (length (division_of a.job.stripes)) (omega (arith, counted (goal.at.returns-then-count-stripe c).Start, c.if-count-stripe.true)))
+    let e = goal.at.returns-then-count-stripe c in
+    rw c.at-then-count-stripe.ensures
+    (no_stripe a.laid.layout.settings _ _ _ _ _ _ (sound e.Else-is_unsound)
+    (le-ltb a.stripe (length (division_of a.job.now.stripes)) (omega (arith, counted e.Start, c.if-count-stripe.true))))
 
 pub step-requires : goal.step-requires
 step-requires c =
@@ -69,4 +71,4 @@ step-requires c =
 
 pub returns : goal.returns
 returns c =
-    did_work c.args.s _ _ _ _ _ _ (sound (goal.at.returns c).Else-is_unsound) (there (goal.at.returns c).Else-count-stripe) c.step.ensures
+    did_work c.args.laid.layout.settings _ _ _ _ _ _ (sound (goal.at.returns c).Else-is_unsound) (there (goal.at.returns c).Else-count-stripe) c.step.ensures

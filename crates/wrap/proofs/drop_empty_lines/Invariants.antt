@@ -1,6 +1,6 @@
 use mathlib.Core.Path.{◌≡◌}
 use mathlib.Core.List.{List}
-use Prim.Native.Nat.{ℕ, ◌+◌, ◌*◌, ◌≤◌}
+use Prim.Native.Nat.{ℕ, ◌+◌, ◌*◌}
 use lib.ListN.{length, take}
 use lib.Seq.{slice}
 use Rattle.tape.specs.Runs.{Letter}
@@ -15,8 +15,5 @@ Left ws lines left =
     (ls : List Letter) (ds : List Line) → lines ≡ length ds → slice table_from (table_from + 4 * lines) ws ≡ line_table ls ds
     → without_last is_empty_line ds ≡ without_last is_empty_line (take left ds)
 
-abbrev pub invariant-loop-left : goal.invariant-loop-left
-invariant-loop-left l = (l.left ≤ l.lines) × Left l.ws l.lines l.left
-
-abbrev pub decreases-loop-left : goal.decreases-loop-left
-decreases-loop-left l = l.left
+abbrev pub invariant-loop-line : goal.invariant-loop-line
+invariant-loop-line l = Left l.ws l.lines l.line

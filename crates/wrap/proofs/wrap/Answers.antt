@@ -1,51 +1,37 @@
-use mathlib.Core.Path.{subst}
+use mathlib.Core.Path.{refl}
 use native.Mathlib.Omega.{arith}
-use lib.ListN.{replicate}
-use Rattle.tape.specs.declared.Style.{Style}
-use Rattle.tape.specs.Style.{default_with}
-use Rattle.tape.specs.TapeRead.{TapeRead}
+use Rattle.std.proofs.lemmas.Result.{err_from_is_err_and}
 use Rattle.tape.proofs.Calls.{accepted_is, refused_is}
 use Rattle.tape.proofs.Answers.{letters_fit}
-use Rattle.wrap.proofs.CallWrap.{too_low, too_high, letters_held, wrapped, tape_refused}
+use Rattle.wrap.proofs.CallWrap.{limit_refused, letters_held, wrapped, tape_refused}
 use Rattle.wrap.proofs.wrap.Goals as goal
-use Rattle.wrap.proofs.wrap.Goals.{After-read_tape}
 
--- the tape was read
-read : (q : After-read_tape) →
-    let a = q.args in
-    TapeRead a.tape.now a.ws.now q.read_tape.new.ws (default_with (replicate 4 0xff)) q.read_tape.result
-read q =
-    let a = q.args in
-    let r = q.read_tape in
-    subst (λ (s : Style). TapeRead a.tape.now a.ws.now r.new.ws s r.result) q.default_with.ensures r.ensures
+pub returns-in_err-limit : goal.returns-in_err-limit
+returns-in_err-limit c =
+    let p = err_from_is_err_and c.from_residual.result c.from_residual.ensures.1 in
+    let r = c.in_err-limit.ensures {u = tt} in
+    rw (p.1, p.2, r.0) (limit_refused _ _ _ r.1)
 
-pub returns-then-limit-lt1 : goal.returns-then-limit-lt1
-returns-then-limit-lt1 c = let a = c.args in too_low a.tape.now a.ws.now a.limit c.if-limit-lt1.true
-
-pub returns-then-limit-gt-MOST_COLUMNS : goal.returns-then-limit-gt-MOST_COLUMNS
-returns-then-limit-gt-MOST_COLUMNS c =
-    let a = c.args in
-    too_high a.tape.now a.ws.now a.limit c.if-limit-lt1.false c.if-limit-gt-MOST_COLUMNS.true
+pub returns-in_err-count : goal.returns-in_err-count
+returns-in_err-count c =
+    let s = c.from_residual-in_err-count in
+    let p = err_from_is_err_and s.result s.ensures.1 in
+    let r = refused_is (rw c.default_with.ensures at (c.in_err-count.ensures {u = tt})) refl in
+    rw (p.1, p.2) (tape_refused _ _ _ (c.in_ok-limit.ensures {u = tt}).1 r)
 
 pub bring_lines-requires : goal.bring_lines-requires
 bring_lines-requires c =
-    let a = accepted_is (read (goal.at.bring_lines-requires c).After-read_tape) c.in-Accepted.is in
+    let a = accepted_is (rw c.default_with.ensures at (c.in_ok-count.ensures {u = tt})) refl in
     let n = c.read_tape.auto.ws in
     let count = a.counts in
     let fit = letters_fit _ _ _ a in
     let few = fit.few in
     let room = fit.enough in
-    (omega arith, c.if-limit-lt1.false, c.if-limit-gt-MOST_COLUMNS.false, omega arith)
+    (omega arith, omega arith)
 
-pub returns-in-Accepted : goal.returns-in-Accepted
-returns-in-Accepted c =
+pub returns : goal.returns
+returns c =
     let b = c.bring_lines in
-    let args = c.args in
-    let a = accepted_is (read (goal.at.returns-in-Accepted c).After-read_tape) c.in-Accepted.is in
-    wrapped args.tape.now args.ws.now args.limit c.if-limit-lt1.false c.if-limit-gt-MOST_COLUMNS.false a b.result b.new.ws
-    (b.ensures a.given a.counts (letters_held _ _ _ a))
-
-pub returns-in-Refused : goal.returns-in-Refused
-returns-in-Refused c =
-    let args = c.args in
-    tape_refused args.tape.now args.ws.now args.limit c.if-limit-lt1.false c.if-limit-gt-MOST_COLUMNS.false (refused_is (read (goal.at.returns-in-Refused c).After-read_tape) c.in-Refused.is)
+    let a = accepted_is (rw c.default_with.ensures at (c.in_ok-count.ensures {u = tt})) refl in
+    let limit = c.in_ok-limit.ensures {u = tt} in
+    wrapped _ _ _ limit.1 a b.result b.new.ws (rw limit.0 at (b.ensures a.given a.counts (letters_held _ _ _ a)))

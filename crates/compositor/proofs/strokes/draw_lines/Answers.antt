@@ -1,16 +1,13 @@
 use mathlib.Core.Path.{◌∙◌, refl, sym, ap}
-use Prim.Native.Nat.{◌≤◌}
 use native.Mathlib.Omega.{arith}
 use Rattle.font.specs.declared.BitmapFont.{BitmapFont}
 use Rattle.font.specs.Font.{table_of}
-use Rattle.font.specs.Slant.{most_slant}
 use Rattle.font.proofs.Rounding.{slant_back, shear_of_lem}
 use Rattle.compositor.specs.Read.{strokes_at, strokes_in}
 use Rattle.compositor.specs.Outline.{outline_of}
 use Rattle.compositor.proofs.Painting.{nothing}
 use Rattle.compositor.proofs.LinesOff.{lines_around, missing}
 use Rattle.compositor.proofs.strokes.draw_lines.Goals as goal
-use Rattle.compositor.proofs.strokes.draw_lines.Goals.{After-table-bold}
 
 pub returns-then-lines-eq0 : goal.returns-then-lines-eq0
 unfolding strokes_in strokes_at
@@ -26,34 +23,20 @@ returns-then-is_off c =
     let high = c.baseline-high.ensures in
     let low = c.baseline-low.ensures.0 in
     let off = rw (high.0, low, o.0) at (sym c.is_off.ensures ∙ c.if-is_off.true) in
-    (missing a.rows _ _ (outline_of a.s) (rw high.0 at high.1) (omega arith) off _ a.window a.part.now refl
-    (lines_around a.s a.lines a.lines 0 0 a.ws.now (omega arith))
+    (missing a.rows _ _ (outline_of a.layout.settings) (rw high.0 at high.1) (omega arith) off _ a.window a.part.now refl
+    (lines_around a.layout.settings a.lines a.lines 0 0 a.ws.now (omega arith))
     ).paints
 
--- italic letters lean as far as a pen may
-leans : (c : After-table-bold) →
-    c.args.s.slant ≤ most_slant
-leans c =
-    c.requires.2.slanted
+pub row_offsets-requires : goal.row_offsets-requires
+row_offsets-requires c = rw c.new-italic.ensures (shear_of_lem _ c.args.layout.in_range.slanted)
 
-pub new-italic-requires : goal.new-italic-requires
-new-italic-requires c = leans (goal.at.new-italic-requires c).After-table-bold
-
-pub row_offsets-slanted-requires : goal.row_offsets-slanted-requires
-row_offsets-slanted-requires c = rw c.new-italic.ensures (shear_of_lem _ (leans (goal.at.row_offsets-slanted-requires c).After-table-bold))
-
-pub draw_each_line-requires : goal.draw_each_line-requires
-draw_each_line-requires c = (
-  c.requires.0,
-  record {
-    regular_is = c.table-regular.ensures ∙ ap (λ (f : BitmapFont). table_of f.bold) c.default_regular-font.ensures;
-    bold_is = c.table-bold.ensures ∙ ap (λ (f : BitmapFont). table_of f.bold) c.default_bold-heavy.ensures;
-    slanted_is = c.row_offsets-slanted.ensures ∙ rw (c.new-italic.ensures, slant_back _ (leans (goal.at.draw_each_line-requires c).After-table-bold));
-  },
-  c.requires.1,
-  c.requires.2,
-)
-
-pub returns : goal.returns
-unfolding strokes_in
-returns c = c.draw_each_line.ensures
+pub invariant_of-painter : goal.invariant_of-painter
+invariant_of-painter c = record {
+  fonts =
+      record {
+        regular_is = c.table-regular.ensures ∙ ap (λ (f : BitmapFont). table_of f.bold) c.default_regular-font.ensures;
+        bold_is = c.table-bold.ensures ∙ ap (λ (f : BitmapFont). table_of f.bold) c.default_bold-heavy.ensures;
+        slanted_is = c.row_offsets.ensures ∙ rw (c.new-italic.ensures, slant_back _ c.args.layout.in_range.slanted);
+      };
+  lined = c.requires.1;
+}

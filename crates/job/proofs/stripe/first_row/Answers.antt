@@ -22,9 +22,6 @@ before c =
     let n = division_length a.stripes (long (goal.at.Else-k-eq0 c).Start) in
     (omega arith, omega arith)
 
-pub returns-then-k-eq0 : goal.returns-then-k-eq0
-returns-then-k-eq0 c = rw c.if-k-eq0.true
-
 pub offset_bounds-stripes-k : goal.offset_bounds-stripes-k
 offset_bounds-stripes-k c = let low = (before (goal.at.offset_bounds-stripes-k c).Else-k-eq0).1 in omega arith
 

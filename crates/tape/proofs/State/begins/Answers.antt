@@ -1,6 +1,6 @@
-use mathlib.Core.Path.{ap}
-use mathlib.Core.Bool.{not}
+use Rattle.std.proofs.Common.{◌∙◌}
+use Rattle.tape.proofs.EqualStyles.{differs}
 use Rattle.tape.proofs.State.begins.Goals as goal
 
 pub returns : goal.returns
-returns c = simp c.if-self.false (ap not c.same_style.ensures)
+returns c = c.ne.ensures ∙ differs c.args.self.last c.args.s

@@ -1,13 +1,13 @@
-use mathlib.Core.Path.{◌≡◌, ◌∙◌, sym, ap₂}
+use mathlib.Core.Path.{◌≡◌, ◌∙◌, sym}
 use Prim.Native.Nat.{ℕ, ◌+◌, ◌-◌, ◌*◌, ◌≤◌, ◌<◌}
 use native.Mathlib.Omega.{arith}
-use lib.ListN.{length}
+use lib.ListN.{length, get_or}
 use Rattle.tape.specs.Command.{operand_width, code_point}
 use Rattle.tape.specs.Reading.{byte_at}
 use Rattle.tape.proofs.Commands.{letter_range}
 use Rattle.tape.proofs.Operands.{letter_width, spells_1, spells_2, spells_3}
 use Rattle.tape.proofs.command.code_point.Goals as goal
-use Rattle.tape.proofs.command.code_point.Goals.{Else-c-eq3, Start}
+use Rattle.tape.proofs.command.code_point.Goals.{Start, In_default}
 
 -- the command is 02, 03 or 04, has as many operands as the table says, and is whole
 reach : (c : Start) →
@@ -20,41 +20,55 @@ reach c = let r = letter_range _ c.requires.0 in (r.0, r.1, letter_width _ r.0 r
 has : (c : Start) (w : ℕ) → byte_at c.args.tape.now c.args.at ≡ w + 1 → operand_width (byte_at c.args.tape.now c.args.at) ≡ w
 has c w e = let r = reach c in omega arith
 
-four : (c : Else-c-eq3) →
-    byte_at c.args.tape.now c.args.at ≡ 4
+-- else it is 04
+four : (c : In_default) → byte_at c.args.tape.now c.args.at ≡ 4
 four c =
-    let r = reach (goal.at.Else-c-eq3 c).Start in
-    omega (arith, c.if-c-eq2.false, c.if-c-eq3.false)
+    let r = reach (goal.at.In_default c).Start in
+    omega arith
 
-pub bounds-tape-at-2 : goal.bounds-tape-at-2
-bounds-tape-at-2 c = let r = reach (goal.at.bounds-tape-at-2 c).Start in omega arith
+pub bounds-tape-at-in_default : goal.bounds-tape-at-in_default
+bounds-tape-at-in_default c =
+    let r = reach (goal.at.bounds-tape-at-in_default c).Start in
+    omega arith
 
-pub returns-then-c-eq2 : goal.returns-then-c-eq2
+pub bounds-tape-at-in_default-2 : goal.bounds-tape-at-in_default-2
+bounds-tape-at-in_default-2 c =
+    let r = reach (goal.at.bounds-tape-at-in_default-2 c).Start in
+    omega (arith, four (goal.at.bounds-tape-at-in_default-2 c).In_default)
+
+pub bounds-tape-at-in_default-3 : goal.bounds-tape-at-in_default-3
+bounds-tape-at-in_default-3 c =
+    let r = reach (goal.at.bounds-tape-at-in_default-3 c).Start in
+    omega (arith, four (goal.at.bounds-tape-at-in_default-3 c).In_default)
+
+pub returns-in-2 : goal.returns-in-2
 unfolding code_point
-returns-then-c-eq2 c =
-    let w = c.wide-high.ensures in
-    let r = reach (goal.at.returns-then-c-eq2 c).Start in
-    (rw (has (goal.at.returns-then-c-eq2 c).Start 1 c.if-c-eq2.true) (w.0 ∙ sym (spells_1 c.args.tape.now c.args.at (omega arith))), omega arith)
+returns-in-2 c =
+    let s = (goal.at.returns-in-2 c).Start in
+    let r = reach s in
+    (rw (has s 1 c.in-2.is) (c.from.ensures ∙ sym (spells_1 c.args.tape.now c.args.at (omega arith))), omega arith)
 
-pub bounds-tape-at-3 : goal.bounds-tape-at-3
-bounds-tape-at-3 c = let r = reach (goal.at.bounds-tape-at-3 c).Start in omega (arith, c.if-c-eq2.false)
-
-pub returns-then-c-eq3 : goal.returns-then-c-eq3
+pub returns-in-3 : goal.returns-in-3
 unfolding code_point
-returns-then-c-eq3 c =
-    let r = reach (goal.at.returns-then-c-eq3 c).Start in
-    let is = ap₂ (λ (x y : ℕ). x * 256 + y) c.wide-high.ensures.0 c.wide.ensures.0 in
-    (rw (has (goal.at.returns-then-c-eq3 c).Start 2 c.if-c-eq3.true) (is ∙ sym (spells_2 c.args.tape.now c.args.at (omega arith))), omega arith)
+returns-in-3 c =
+    let s = (goal.at.returns-in-3 c).Start in
+    let r = reach s in
+    let tape = c.args.tape.now in
+    let at = c.args.at in
+    let is : c.from_be_bytes.result ≡ get_or tape (at + 1) 0 * 256 + get_or tape (at + 2) 0 = omega (arith, c.from_be_bytes.ensures) in (
+      rw (has s 2 c.in-3.is) (is ∙ sym (spells_2 tape at (omega arith))),
+      omega (arith, is, c.type_inv.tape (at + 1), c.type_inv.tape (at + 2)),
+    )
 
-pub bounds-tape-at-4 : goal.bounds-tape-at-4
-bounds-tape-at-4 c =
-    let r = reach (goal.at.bounds-tape-at-4 c).Start in
-    omega (arith, four (goal.at.bounds-tape-at-4 c).Else-c-eq3)
-
-pub returns : goal.returns
+pub returns-in_default : goal.returns-in_default
 unfolding code_point
-returns c =
-    let r = reach (goal.at.returns c).Start in
-    let k = four (goal.at.returns c).Else-c-eq3 in
-    let is = ap₂ (λ (x y : ℕ). (x * 256 + y) * 256 + c.wide-2.result) c.wide-high.ensures.0 c.wide.ensures.0 in
-    (rw (has (goal.at.returns c).Start 3 k) (is ∙ rw c.wide-2.ensures.0 (sym (spells_3 c.args.tape.now c.args.at (omega arith)))), omega arith)
+returns-in_default c =
+    let s = (goal.at.returns-in_default c).Start in
+    let r = reach s in
+    let tape = c.args.tape.now in
+    let at = c.args.at in
+    let is : c.from_be_bytes-in_default.result ≡ (get_or tape (at + 1) 0 * 256 + get_or tape (at + 2) 0) * 256 + get_or tape (at + 3) 0 =
+    omega (arith, c.from_be_bytes-in_default.ensures) in (
+      rw (has s 3 (four (goal.at.returns-in_default c).In_default)) (is ∙ sym (spells_3 tape at (omega arith))),
+      omega (arith, is, c.type_inv.tape (at + 1), c.type_inv.tape (at + 2), c.type_inv.tape (at + 3)),
+    )

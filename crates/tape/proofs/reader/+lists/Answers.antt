@@ -1,44 +1,45 @@
 -- `read_list` and `read_segment` meet their contracts.
-use Rattle.std.proofs.Common.{◌≡◌, ℕ, ◌+◌, ◌<◌, ◌≤◌, false, true, not, [], eqb, length, refl, sym, ap, ◌∙◌, add-zero, arith, length-drop, eqb-true}
-use native.Mathlib.Nat.{pos_of_ne-zero}
-use borrow.Author.Tests.{not-true}
+use Rattle.std.proofs.Common.{◌≡◌, ℕ, ◌+◌, ◌<◌, false, true, [], length, refl, sym, ap, ◌∙◌, add-zero, arith, length-drop}
 use Rattle.tape.specs.declared.State.{State}
 use Rattle.tape.specs.Outcome.{refused}
 use Rattle.tape.specs.Command.{deepest, is_letter, is_opener, added, Command, ends, opens, names, opener_of, command_of}
 use Rattle.tape.specs.Tape.{says, next}
 use Rattle.tape.specs.Reading.{byte_of, rest_of, command_at, within, past, Sound, Went}
 use Rattle.tape.proofs.Commands.{open_command}
-use Rattle.tape.proofs.Faults.{clean, not_outer, not_deepest, opens_in_list}
+use Rattle.tape.proofs.Faults.{passed_check, failed_check, clean, not_outer, not_deepest, opens_in_list}
 use Rattle.tape.proofs.LeafCommands.{leaf, went_leaf}
 use Rattle.tape.proofs.MeaningSteps.{end_from, end_inside}
-use Rattle.tape.proofs.EqualStyles.{split}
-use Rattle.tape.proofs.TapeParts.{wrote_length, went_then, went_stopped, stopped_fault, went_command, then_reads, inner_reads, went_outer, onward}
+use Rattle.tape.proofs.TapeParts.{wrote_length, went_then, went_stopped, stopped_fault, went_command, then_reads, inner_reads, onward}
+use Rattle.std.proofs.lemmas.Result.{err_from_is_err_and}
 use Rattle.tape.proofs.reader.+lists.Goals as goal
-use Rattle.tape.proofs.reader.+lists.Goals.{read_list-Else-fault-ne0, read_segment-Else-not-is_opener, read_segment-After-onto-opened, read_segment-Else-c-eq9, read_segment-Then-c-eq9}
+use Rattle.tape.proofs.reader.+lists.Goals.{read_list-In_ok-check, read_segment-Else-not-is_opener, read_segment-After-onto-opened, read_segment-Else-c-eq9, read_segment-Then-c-eq9}
 
 -- ---- a list
 
-pub read_list-returns-then-fault-ne0 : goal.read_list-returns-then-fault-ne0
-read_list-returns-then-fault-ne0 t c =
+pub read_list-returns-in_err-check : goal.read_list-returns-in_err-check
+read_list-returns-in_err-check t c =
     let a = c.args in
-    let l = c.loop-s in (
-      went_stopped a.tape.now a.depth l.invariant
-          (stopped_fault a.tape.now a.depth a.naming a.style l.s _ _ c.loop-s-test.true c.fault-fault.ensures c.if-fault-ne0.true refl),
+    let l = c.loop-s in
+    let p = err_from_is_err_and c.from_residual.result c.from_residual.ensures.1 in
+    let f = failed_check _ _ (c.in_err-check.ensures {u = tt}) in
+    rw (p.1, p.2) (
+      went_stopped a.tape.now a.inside.depth l.invariant
+          (stopped_fault a.tape.now a.inside.depth a.inside.naming a.inside.style l.s _ _ c.loop-s-test.true f.is f.some f.there),
       tt,
     )
 
 -- a command without a fault
-sound : (t : ℕ) (c : read_list-Else-fault-ne0 t) → Sound c.args.tape.now c.loop-s.ws c.loop-s.s c.args.naming c.args.depth
+sound : (t : ℕ) (c : read_list-In_ok-check t) → Sound c.args.tape.now c.loop-s.ws c.loop-s.s c.args.inside.naming c.args.inside.depth
 sound t c =
-    let p = c.requires.0 in
+    let p = c.requires in
     let same = wrote_length c.loop-s.invariant.stored in
-    record { inside = c.loop-s-test.true; clear = sym c.fault-fault.ensures ∙ c.if-fault-ne0.false; space = omega arith }
+    record { inside = c.loop-s-test.true; clear = passed_check _ _ (c.in_ok-check.ensures {u = tt}); space = omega arith }
 
 pub read_list-finish-requires : goal.read_list-finish-requires
 read_list-finish-requires t c =
-    let ok = sound t (goal.at.read_list-finish-requires t c).Else-fault-ne0 in
+    let ok = sound t (goal.at.read_list-finish-requires t c).In_ok-check in
     let few = (clean _ _ _ _ _ ok.clear).few in
-    let none = ap (added c.args.naming) c.if-tape-at-eq0.true in
+    let none = ap (added c.args.inside.naming) c.if-tape-at-eq0.true in
     let space = ok.space in
     omega arith
 
@@ -48,39 +49,22 @@ read_list-returns-then-tape-at-eq0 t c =
     let l = c.loop-s in
     let a = c.args in
     let zero = c.if-tape-at-eq0.true in
-    let ok = sound t (goal.at.read_list-returns-then-tape-at-eq0 t c).Else-fault-ne0 in (
-      went_then a.tape.now a.depth l.invariant
-          (went_command a.tape.now a.depth a.naming a.style ends ok (rw zero) (rw (zero, add-zero) c.finish.ensures)),
+    let ok = sound t (goal.at.read_list-returns-then-tape-at-eq0 t c).In_ok-check in (
+      went_then a.tape.now a.inside.depth l.invariant
+          (went_command a.tape.now a.inside.depth a.inside.naming a.inside.style ends ok (rw zero) (rw (zero, add-zero) c.finish.ensures)),
       λ list d. absurd (not_outer (clean _ _ _ _ _ ok.clear) zero list d),
-    )
-
-pub read_list-read_segment-requires : goal.read_list-read_segment-requires
-read_list-read_segment-requires t c =
-    let on = c.loop-s.invariant.on in
-    let h = c.loop-s-test.true in (
-      omega (arith, c.decreases),
-      (sound t (goal.at.read_list-read_segment-requires t c).Else-fault-ne0, pos_of_ne-zero c.if-tape-at-eq0.false, c.requires.1),
     )
 
 pub read_list-loop-s-smaller : goal.read_list-loop-s-smaller
 read_list-loop-s-smaller t c =
-    let one = c.in-Done.ensures.1 in
-    let more = (c.read_letters-s.ensures.went c.args.naming c.args.depth).on in
+    let one = (c.in_ok-after.ensures {u = tt}).1 in
+    let more = (c.read_letters-s.ensures.went c.args.inside.naming c.args.inside.depth).on in
     let h = c.loop-s-test.true in
     omega arith
 
 pub read_list-loop-s-preserved : goal.read_list-loop-s-preserved
 read_list-loop-s-preserved t c =
-    went_then _ _ (went_then _ _ c.loop-s.invariant c.in-Done.ensures.0) (c.read_letters-s.ensures.went c.args.naming c.args.depth)
-
-pub read_list-returns-in-Refused : goal.read_list-returns-in-Refused
-read_list-returns-in-Refused t c = (went_stopped _ _ c.loop-s.invariant c.in-Refused.ensures.0, tt)
-
-pub read_list-returns-then-is_outer : goal.read_list-returns-then-is_outer
-read_list-returns-then-is_outer t c =
-    let a = c.args in
-    let outer = split (not a.naming) (eqb a.depth 0) (sym c.is_outer.ensures ∙ c.if-is_outer.true) in
-    (went_outer (not-true _ outer.0) (eqb-true a.depth 0 outer.1) c.loop-s.invariant, λ list d. c.loop-s-test.false)
+    went_then _ _ (went_then _ _ c.loop-s.invariant (c.in_ok-after.ensures {u = tt}).0) (c.read_letters-s.ensures.went c.args.inside.naming c.args.inside.depth)
 
 pub read_list-returns : goal.read_list-returns
 read_list-returns t c =
@@ -90,10 +74,10 @@ read_list-returns t c =
     let left = c.loop-s-test.false in
     let end : l.s.at ≡ length a.tape.now = omega arith in
     let inner = sym c.is_outer.ensures ∙ c.if-is_outer.false in (
-      went_stopped a.tape.now a.depth l.invariant λ around d.
-          end_from a.tape.now (within a.style a.naming around) l.s.at l.s.count left
-          ∙ end_inside around a.naming l.s.at (rw d inner)
-          ∙ ap (refused 3) end,
+      rw c.at.ensures (went_stopped a.tape.now a.inside.depth l.invariant λ around d.
+          end_from a.tape.now (within a.inside.style a.inside.naming around) l.s.at l.s.count left
+          ∙ end_inside around a.inside.naming l.s.at (rw d inner)
+          ∙ ap (refused 3) end),
       tt,
     )
 
@@ -101,14 +85,14 @@ read_list-returns t c =
 
 pub read_segment-read_leaf-requires : goal.read_segment-read_leaf-requires
 read_segment-read_leaf-requires t c =
-    leaf _ _ c.args.naming _ _ c.requires.0 c.requires.1 (sym c.is_opener.ensures ∙ c.if-not-is_opener.true)
+    leaf _ _ c.args.inside.naming _ _ c.requires.0 c.requires.1 (sym c.is_opener.ensures ∙ c.if-not-is_opener.true)
 
 pub read_segment-returns-then-not-is_opener : goal.read_segment-returns-then-not-is_opener
 read_segment-returns-then-not-is_opener t c =
     let a = c.args in
     let flat = sym c.is_opener.ensures ∙ c.if-not-is_opener.true in
     let at = ap (λ (x : State). x.at) c.read_leaf.ensures.state in (
-      went_leaf a.tape.now a.depth a.naming _ _ c.requires.0 c.requires.1 flat a.style _ _ c.read_leaf.ensures,
+      went_leaf a.tape.now a.inside.depth a.inside.naming _ _ c.requires.0 c.requires.1 flat a.inside.style _ _ c.read_leaf.ensures,
       omega arith,
     )
 
@@ -116,8 +100,8 @@ read_segment-returns-then-not-is_opener t c =
 opener : (t : ℕ) (c : read_segment-Else-not-is_opener t) → is_opener (byte_of c.args.tape.now c.args.st) ≡ true
 opener t c = sym c.is_opener.ensures ∙ c.if-not-is_opener.false
 
-in_list : (t : ℕ) (c : read_segment-Else-not-is_opener t) → c.args.naming ≡ false
-in_list t c = opens_in_list c.args.naming (clean _ _ _ _ _ c.requires.0.clear) (opener t c)
+in_list : (t : ℕ) (c : read_segment-Else-not-is_opener t) → c.args.inside.naming ≡ false
+in_list t c = opens_in_list c.args.inside.naming (clean _ _ _ _ _ c.requires.0.clear) (opener t c)
 
 pub read_segment-operand_width-requires : goal.read_segment-operand_width-requires
 read_segment-operand_width-requires t c = (clean _ _ _ _ _ c.requires.0.clear).known
@@ -126,11 +110,11 @@ read_segment-operand_width-requires t c = (clean _ _ _ _ _ c.requires.0.clear).k
 passed : (t : ℕ) (c : read_segment-After-onto-opened t) (cm : Command) →
     let a = c.args in
     command_at a.tape.now a.st ≡ cm
-    → says cm a.style a.naming ≡ []
-    → Went a.tape.now a.ws.now a.ws.now a.depth (within a.style a.naming) (λ around. next cm a.style around a.naming) a.st c.onto-opened.result
+    → says cm a.inside.style a.inside.naming ≡ []
+    → Went a.tape.now a.ws.now a.ws.now a.inside.depth (within a.inside.style a.inside.naming) (λ around. next cm a.inside.style around a.inside.naming) a.st c.onto-opened.result
 passed t c cm e q =
     let a = c.args in
-    went_command a.tape.now a.depth a.naming a.style cm c.requires.0 e
+    went_command a.tape.now a.inside.depth a.inside.naming a.inside.style cm c.requires.0 e
     (rw (q, ← c.operand_width.ensures.0) (record { state = c.onto-opened.ensures; bytes = refl }))
 
 on : (t : ℕ) (c : read_segment-After-onto-opened t) → c.args.st.at < c.onto-opened.result.at
@@ -141,11 +125,26 @@ named : (t : ℕ) (c : read_segment-Then-c-eq9 t) → command_at c.args.tape.now
 unfolding command_of is_letter
 named t c = rw c.if-c-eq9.true
 
+pub read_segment-returns-in_err-named : goal.read_segment-returns-in_err-named
+read_segment-returns-in_err-named t c =
+    let e = goal.at.read_segment-returns-in_err-named t c in
+    let a = c.args in
+    let p = err_from_is_err_and c.from_residual.result c.from_residual.ensures.1 in
+    let name = c.name_in.ensures in
+    let opened = passed t e.After-onto-opened names (named t e.Then-c-eq9) refl in
+    rw (p.1, p.2) (went_stopped a.tape.now a.inside.depth opened (rw (name.0, name.1, name.2) at (c.in_err-named.ensures {u = tt})).0, tt)
+
 -- the list that it opens is not too deep
-shallow : (t : ℕ) (c : read_segment-Else-not-is_opener t) → c.args.depth + 1 ≤ deepest
+shallow : (t : ℕ) (c : read_segment-Else-not-is_opener t) → c.args.inside.depth < deepest
 shallow t c =
-    let deep = c.requires.2 in
+    let deep = c.args.inside.shallow in
     omega (arith, not_deepest (clean _ _ _ _ _ c.requires.0.clear) (opener t c))
+
+pub read_segment-list_in-requires : goal.read_segment-list_in-requires
+read_segment-list_in-requires t c = shallow t (goal.at.read_segment-list_in-requires t c).Else-not-is_opener
+
+pub read_segment-list_in-requires-2 : goal.read_segment-list_in-requires-2
+read_segment-list_in-requires-2 t c = shallow t (goal.at.read_segment-list_in-requires-2 t c).Else-not-is_opener
 
 pub read_segment-read_list-requires : goal.read_segment-read_list-requires
 read_segment-read_list-requires t c =
@@ -153,42 +152,39 @@ read_segment-read_list-requires t c =
     let w = passed t e.After-onto-opened names (named t e.Then-c-eq9) refl in
     let far = on t e.After-onto-opened in
     let h = c.requires.0.inside in
-    (omega (arith, c.decreases), (record { on = w.to; few = w.few; space = c.requires.0.space }, c.requires.2))
+    (omega (arith, c.decreases), record { on = w.to; few = w.few; space = c.requires.0.space })
 
-pub read_segment-read_list-requires-in-Done : goal.read_segment-read_list-requires-in-Done
-read_segment-read_list-requires-in-Done t c =
-    let e = goal.at.read_segment-read_list-requires-in-Done t c in
-    let n = c.in-Done.ensures.0 in
+pub read_segment-read_list-requires-then-c-eq9 : goal.read_segment-read_list-requires-then-c-eq9
+read_segment-read_list-requires-then-c-eq9 t c =
+    let e = goal.at.read_segment-read_list-requires-then-c-eq9 t c in
+    let n = (c.in_ok-named.ensures {u = tt}).0 in
     let far = on t e.After-onto-opened in
     let on = n.on in
     let h = c.requires.0.inside in
     let space = c.requires.0.space in
     let same = wrote_length n.stored in
-    (omega (arith, c.decreases), (record { on = n.to; few = n.few; space = omega arith }, shallow t e.Else-not-is_opener))
+    (omega (arith, c.decreases), record { on = n.to; few = n.few; space = omega arith })
 
-pub read_segment-returns-in-Done : goal.read_segment-returns-in-Done
-read_segment-returns-in-Done t c =
-    let e = goal.at.read_segment-returns-in-Done t c in
+pub read_segment-returns-then-c-eq9 : goal.read_segment-returns-then-c-eq9
+read_segment-returns-then-c-eq9 t c =
+    let e = goal.at.read_segment-returns-then-c-eq9 t c in
     let a = c.args in
+    let name = c.name_in.ensures in
+    let list = c.list_in.ensures in
     let opened = passed t e.After-onto-opened names (named t e.Then-c-eq9) refl in
-    let named = went_then a.tape.now a.depth opened c.in-Done.ensures.0 in
+    let read = (rw (name.0, name.1, name.2) at (c.in_ok-named.ensures {u = tt})).0 in
+    let named = went_then a.tape.now a.inside.depth opened read in
     let far = on t e.After-onto-opened in
-    let more = c.in-Done.ensures.0.on in
-    let r = c.read_list-in-Done.result in
-    let inner = inner_reads a.tape.now a.depth (within a.style false) (past a.style false) _ _ _ a.style r c.read_list-in-Done.ensures.0 in (
-      then_reads a.tape.now a.depth (within a.style a.naming) _ r named (rw (in_list t e.Else-not-is_opener) inner),
-      onward a.tape.now a.depth _ _ _ _ a.st _ r (omega arith) inner,
+    let more = read.on in
+    let r = c.read_list-then-c-eq9.result in
+    let own = rw (list.0, list.1, list.2) at c.read_list-then-c-eq9.ensures.0 in
+    let inner = inner_reads a.tape.now a.inside.depth (within a.inside.style false) (past a.inside.style false) _ _ _ a.inside.style r own in (
+      then_reads a.tape.now a.inside.depth (within a.inside.style a.inside.naming) _ r named (rw (in_list t e.Else-not-is_opener) inner),
+      onward a.tape.now a.inside.depth _ _ _ _ a.st _ r (omega arith) inner,
     )
 
-pub read_segment-returns-in-Refused : goal.read_segment-returns-in-Refused
-read_segment-returns-in-Refused t c =
-    let e = goal.at.read_segment-returns-in-Refused t c in
-    let a = c.args in
-    let opened = passed t e.After-onto-opened names (named t e.Then-c-eq9) refl in
-    (went_stopped a.tape.now a.depth opened c.in-Refused.ensures.0, tt)
-
-pub read_segment-style_inside-inside-requires : goal.read_segment-style_inside-inside-requires
-read_segment-style_inside-inside-requires t c =
+pub read_segment-style_inside-style-requires : goal.read_segment-style_inside-style-requires
+read_segment-style_inside-style-requires t c =
     let a = c.args in
     let whole = (clean _ _ _ _ _ c.requires.0.clear).whole in
     let l = length-drop (a.st.at + 1) a.tape.now in
@@ -198,7 +194,7 @@ read_segment-style_inside-inside-requires t c =
 -- a list opens
 opened : (t : ℕ) (c : read_segment-Else-c-eq9 t) → let a = c.args in
     let o = opener_of (byte_of a.tape.now a.st) (rest_of a.tape.now a.st) in
-    Went a.tape.now a.ws.now a.ws.now a.depth (within a.style a.naming) (λ around. next (opens o) a.style around a.naming) a.st c.onto-opened.result
+    Went a.tape.now a.ws.now a.ws.now a.inside.depth (within a.inside.style a.inside.naming) (λ around. next (opens o) a.inside.style around a.inside.naming) a.st c.onto-opened.result
 opened t c =
     let e = goal.at.read_segment-Else-c-eq9 t c in
     let o = opener_of (byte_of c.args.tape.now c.args.st) (rest_of c.args.tape.now c.args.st) in
@@ -211,17 +207,19 @@ read_segment-read_list-requires-2 t c =
     let far = on t e.After-onto-opened in
     let h = c.requires.0.inside in (
       omega (arith, c.decreases),
-      (record { on = w.to; few = w.few; space = c.requires.0.space }, shallow t e.Else-not-is_opener),
+      record { on = w.to; few = w.few; space = c.requires.0.space },
     )
 
 pub read_segment-returns : goal.read_segment-returns
 read_segment-returns t c =
     let e = goal.at.read_segment-returns t c in
     let a = c.args in
+    let list = c.list_in-2.ensures in
     let r = c.read_list-2.result in
-    let style = c.style_inside-inside.result in
-    let inner = inner_reads a.tape.now a.depth (within style false) (past style false) _ _ _ a.style r c.read_list-2.ensures.0 in (
-      then_reads a.tape.now a.depth (within a.style a.naming) _ r (opened t e.Else-c-eq9)
-          (rw (in_list t e.Else-not-is_opener, ← c.style_inside-inside.ensures) inner),
-      onward a.tape.now a.depth _ _ _ _ a.st _ r (on t e.After-onto-opened) inner,
+    let style = c.style_inside-style.result in
+    let own = rw (list.0, list.1, list.2) at c.read_list-2.ensures.0 in
+    let inner = inner_reads a.tape.now a.inside.depth (within style false) (past style false) _ _ _ a.inside.style r own in (
+      then_reads a.tape.now a.inside.depth (within a.inside.style a.inside.naming) _ r (opened t e.Else-c-eq9)
+          (rw (in_list t e.Else-not-is_opener, ← c.style_inside-style.ensures) inner),
+      onward a.tape.now a.inside.depth _ _ _ _ a.st _ r (on t e.After-onto-opened) inner,
     )

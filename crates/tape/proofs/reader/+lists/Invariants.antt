@@ -11,7 +11,7 @@ decreases-read_segment l = 2 * (length l.tape.now - l.st.at)
 
 abbrev pub invariant-read_list-loop-s : goal.invariant-read_list-loop-s
 invariant-read_list-loop-s l =
-    Went l.tape l.initial.ws l.ws l.depth (within l.style l.naming) (within l.style l.naming) l.initial.s l.s
+    Went l.tape l.initial.ws l.ws l.fn.inside.depth (within l.fn.inside.style l.fn.inside.naming) (within l.fn.inside.style l.fn.inside.naming) l.initial.s l.s
 
 abbrev pub decreases-read_list-loop-s : goal.decreases-read_list-loop-s
 decreases-read_list-loop-s l = length l.tape - l.s.at

@@ -1,15 +1,11 @@
-use mathlib.Core.Path.{◌≡◌, ◌∙◌, refl, sym, ap}
-use mathlib.Core.Bool.{false, true}
-use mathlib.Core.List.{List, [], ◌∷◌}
-use Prim.Native.Nat.{ℕ, ◌+◌}
-use native.Mathlib.Omega.{arith}
+use Rattle.std.proofs.Common.{◌≡◌, ◌∙◌, ℕ, ◌+◌, List, [], ◌∷◌, false, true, refl, sym, ap, arith}
 use Rattle.tape.specs.declared.State.{State}
 use Rattle.tape.specs.Command.{is_letter, added, Command, shows, time_mark, command_of}
 use Rattle.tape.specs.Tape.{says}
 use Rattle.tape.specs.Reading.{Wrote, LeafRead, byte_of, command_at}
 use Rattle.tape.proofs.Commands.{else_letter, letter_command, letter_adds}
 use Rattle.tape.proofs.reader.read_leaf.Goals as goal
-use Rattle.tape.proofs.reader.read_leaf.Goals.{After-operand_width, Else-c-eq11, Start}
+use Rattle.tape.proofs.reader.read_leaf.Goals.{After-operand_width, In_default, Start}
 
 abbrev command : Start → Command
 command s = command_at s.args.tape.now s.args.st
@@ -21,45 +17,36 @@ leaf : (c : After-operand_width) {ws' : List ℕ} {r : State} (cm : Command) →
     → LeafRead a.tape.now a.ws.now ws' a.st a.style r
 leaf c cm e h = rw (e, ← c.operand_width.ensures.0) h
 
-pub returns-then-c-eq1 : goal.returns-then-c-eq1
-unfolding command_of
-returns-then-c-eq1 c =
-    leaf (goal.at.returns-then-c-eq1 c).After-operand_width (shows []) (rw c.if-c-eq1.true) (record { state = c.empty_text.ensures; bytes = refl })
-
 pub put-requires : goal.put-requires
 unfolding added
-put-requires c = let one = ap (added false) c.if-c-eq5.true in omega arith
+put-requires c = let one = ap (added false) c.in-5.is in omega arith
 
-pub returns-then-c-eq5 : goal.returns-then-c-eq5
-unfolding command_of is_letter
-returns-then-c-eq5 c =
-    leaf (goal.at.returns-then-c-eq5 c).After-operand_width (shows (0x0a ∷ [])) (rw c.if-c-eq5.true) c.put.ensures
+pub returns-in-1 : goal.returns-in-1
+unfolding command_of
+returns-in-1 c =
+    leaf (goal.at.returns-in-1 c).After-operand_width (shows []) (rw c.in-1.is) (record { state = c.empty_text.ensures; bytes = refl })
 
-pub returns-then-c-eq11 : goal.returns-then-c-eq11
+pub returns-in-5 : goal.returns-in-5
 unfolding command_of is_letter
-returns-then-c-eq11 c =
-    leaf (goal.at.returns-then-c-eq11 c).After-operand_width time_mark (rw c.if-c-eq11.true) (record { state = c.onto.ensures; bytes = refl })
+returns-in-5 c = leaf (goal.at.returns-in-5 c).After-operand_width (shows (0x0a ∷ [])) (rw c.in-5.is) c.put.ensures
+
+pub returns-in-11 : goal.returns-in-11
+unfolding command_of is_letter
+returns-in-11 c =
+    leaf (goal.at.returns-in-11 c).After-operand_width time_mark (rw c.in-11.is) (record { state = c.onto.ensures; bytes = refl })
 
 -- else it is a letter
-letter : (c : Else-c-eq11) →
-    let a = c.args in
-    is_letter (byte_of a.tape.now a.st) ≡ true
-letter c =
-    let p = c.requires in
-    else_letter _ p.known p.some p.flat c.if-c-eq1.false c.if-c-eq5.false c.if-c-eq11.false
+letter : (c : In_default) → is_letter (byte_of c.args.tape.now c.args.st) ≡ true
+letter c = let p = c.requires in else_letter _ p.known p.some p.flat (λ e. omega arith) (λ e. omega arith) (λ e. omega arith)
 
 pub code_point-requires : goal.code_point-requires
-code_point-requires c =
-    let whole = c.requires.whole in
-    (letter (goal.at.code_point-requires c).Else-c-eq11, omega arith)
+code_point-requires c = let whole = c.requires.whole in (letter (goal.at.code_point-requires c).In_default, omega arith)
 
-pub put-requires-2 : goal.put-requires-2
-put-requires-2 c =
-    let one = letter_adds _ false (letter (goal.at.put-requires-2 c).Else-c-eq11) in
-    omega arith
+pub put-requires-in_default : goal.put-requires-in_default
+put-requires-in_default c = let one = letter_adds _ false (letter (goal.at.put-requires-in_default c).In_default) in omega arith
 
-pub returns : goal.returns
-returns c =
-    let is : command (goal.at.returns c).Start ≡ shows (c.code_point.result ∷ []) =
-    letter_command _ _ (letter (goal.at.returns c).Else-c-eq11) ∙ ap (λ (v : ℕ). shows (v ∷ [])) (sym c.code_point.ensures.0) in
-    leaf (goal.at.returns c).After-operand_width (shows (c.code_point.result ∷ [])) is c.put-2.ensures
+pub returns-in_default : goal.returns-in_default
+returns-in_default c =
+    let is : command (goal.at.returns-in_default c).Start ≡ shows (c.code_point.result ∷ []) =
+    letter_command _ _ (letter (goal.at.returns-in_default c).In_default) ∙ ap (λ (v : ℕ). shows (v ∷ [])) (sym c.code_point.ensures.0) in
+    leaf (goal.at.returns-in_default c).After-operand_width (shows (c.code_point.result ∷ [])) is c.put-in_default.ensures

@@ -1,52 +1,27 @@
-use mathlib.Core.Path.{◌≡◌, ◌∙◌, refl, sym}
-use mathlib.Core.Bool.{◌&&◌}
-use Prim.Native.Nat.{◌+◌}
-use native.Mathlib.Omega.{arith}
-use borrow.Author.Tests.{lt-leb, le-leb}
-use lib.Dec.{leb}
-use lib.ListN.{get_or, drop}
-use Rattle.tape.specs.Stack.{reaches_to}
+use Rattle.std.proofs.Common.{sym, ◌∙◌}
+use native.Mathlib.Nat.{pos_of_ne-zero}
+use borrow.Author.Tests.{lt-leb, le-leb, eqb-true, eqb-false}
 use Rattle.tape.proofs.StackEnds.{reach_turn, reach_end, unfit_none, unfit_many, unfit_by}
 use Rattle.tape.proofs.stack.is_unfit.Goals as goal
-use Rattle.tape.proofs.stack.is_unfit.Goals.{In-loop-i}
+use Rattle.tape.proofs.stack.is_unfit.Goals.{then-is_empty-via-then-is_empty, then-is_empty-via-else-is_empty+then-ends-gt-MOST_TAPES}
 
-pub returns-then-count-eq0 : goal.returns-then-count-eq0
-returns-then-count-eq0 c = sym (unfit_none _ _ c.if-count-eq0.true)
-
-pub returns-then-count-gt-MOST_TAPES : goal.returns-then-count-gt-MOST_TAPES
-returns-then-count-gt-MOST_TAPES c = sym (unfit_many _ _ c.if-count-gt-MOST_TAPES.true)
-
-pub loop-i-init : goal.loop-i-init
-loop-i-init c = (omega arith, refl)
-
--- the next end
-turn : (c : In-loop-i) →
-    let l = c.loop-i in
-    let a = c.args in
-    let end = get_or a.ends.now l.i 0 in
-    reaches_to a.bytes 0 a.ends.now ≡ (leb l.place end && reaches_to a.bytes end (drop (l.i + 1) a.ends.now))
-turn c =
-    let l = c.loop-i in
-    let a = c.args in
-    l.invariant.1 ∙ reach_turn a.ends.now l.i a.bytes l.place c.loop-i-test.true
-
-pub overflow_cast-end : goal.overflow_cast-end
-overflow_cast-end c = let h = c.type_inv.ends c.loop-i.i in omega arith
+pub returns-then-is_empty : goal.returns-then-is_empty
+returns-then-is_empty c =
+    elim c.then-is_empty.branch [
+      | then-is_empty-via-then-is_empty w ↦ sym (unfit_none _ _ (eqb-true _ 0 (sym (w.if-is_empty.ensures {u = tt}))))
+      | then-is_empty-via-else-is_empty+then-ends-gt-MOST_TAPES w ↦ sym (unfit_many _ _ w.if-ends-gt-MOST_TAPES.true)
+    ]
 
 pub returns-then-end-place : goal.returns-then-end-place
 returns-then-end-place c =
-    let some = c.if-count-eq0.false in
-    sym (unfit_by _ _ (omega arith) c.if-count-gt-MOST_TAPES.false (rw (lt-leb _ _ c.if-end-place.true) at (turn (goal.at.returns-then-end-place c).In-loop-i)))
+    let turn = c.loop-end.invariant ∙ reach_turn _ _ _ _ c.loop-end-test.true in
+    sym (unfit_by _ _ (pos_of_ne-zero (eqb-false _ 0 (sym (c.if-is_empty.ensures {u = tt})))) c.if-ends-gt-MOST_TAPES.false (rw (lt-leb _ _ c.if-end-place.true) at turn))
 
-pub loop-i-smaller : goal.loop-i-smaller
-loop-i-smaller c = omega arith
-
-pub loop-i-preserved : goal.loop-i-preserved
-loop-i-preserved c = (omega arith, rw (le-leb _ _ c.if-end-place.false) at (turn (goal.at.loop-i-preserved c).In-loop-i))
+pub loop-end-preserved : goal.loop-end-preserved
+loop-end-preserved c =
+    let turn = c.loop-end.invariant ∙ reach_turn _ _ _ _ c.loop-end-test.true in
+    rw (le-leb _ _ c.if-end-place.false) at turn
 
 pub returns : goal.returns
 returns c =
-    let l = c.loop-i in
-    let a = c.args in
-    let some = c.if-count-eq0.false in
-    sym (unfit_by _ _ (omega arith) c.if-count-gt-MOST_TAPES.false (l.invariant.1 ∙ reach_end a.ends.now l.i a.bytes l.place c.loop-i-test.false))
+    sym (unfit_by _ _ (pos_of_ne-zero (eqb-false _ 0 (sym (c.if-is_empty.ensures {u = tt})))) c.if-ends-gt-MOST_TAPES.false (c.loop-end.invariant ∙ reach_end _ _ _ _ c.loop-end-test.false))

@@ -1,8 +1,0 @@
-use borrow.Author.Tests.{eq-eqb, ne_eqb}
-use Rattle.wrap.proofs.token.is_blank.Goals as goal
-
-pub returns-then-c-eq32 : goal.returns-then-c-eq32
-returns-then-c-eq32 c = simp (eq-eqb _ _ c.if-c-eq32.true)
-
-pub returns-else-c-eq32 : goal.returns-else-c-eq32
-returns-else-c-eq32 c = simp (ne_eqb _ _ c.if-c-eq32.false)
