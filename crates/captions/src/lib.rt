@@ -79,12 +79,8 @@ fn stripes_of(words: [u32; 65]) -> Stripes
 fn record_of(words: [u32; 129]) -> JobRecord
     ensures { result ≡ record_of words }
 {
-    let stripes = Stripes {
-        stripe_count: words[0],
-        end_rows: taken(&words[1..65]),
-    };
     JobRecord {
-        stripes,
+        stripes: stripes_of(*words.first_chunk().unwrap()),
         counters: taken(&words[65..]),
     }
 }

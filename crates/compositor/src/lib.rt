@@ -152,7 +152,7 @@ fn draw_cue(laid: Laid, ws: &[u8], picture: &mut [u8])
     };
     let total = laid.strokes;
     let all = Window { from: 0, to: total };
-    strokes::draw_lines(picture, rows, ws, layout, laid.lines, all);
+    strokes::draw_lines(picture, rows, ws, laid, all);
 }
 
 // The call Draw: the picture then shows the tape's caption on zeros, and the answer is how many

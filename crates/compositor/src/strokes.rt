@@ -17,6 +17,7 @@ ghost use Rattle.compositor.specs.Read.{letters_at, letters_from, strokes_in};
 ghost use Rattle.compositor.specs.Painting.{Near, Fonts, stroke_of, strokes_of, cut, misses, after, off_rows, painted, Painted};
 ghost use Rattle.compositor.specs.Ready.{Lined};
 
+use crate::Laid;
 use crate::layout::{self, Layout};
 use font::{BitmapFont, GlyphKey, ORIGIN, Pen, Rows, Spot};
 use tape::{Style, letter};
@@ -232,6 +233,7 @@ impl<'a> Painter<'a> {
         ensures { (result.key ≡ key)
             × (result.pen ≡ pen_of (color_of style) style.bold (cond style.italic self.now.layout.settings.slant 0)) }
     {
+        // No `From`: the four bytes are asked for here alone.
         let color = [style.red, style.green, style.blue, style.alpha];
         let slant = self.layout.slant_of(style.italic);
         Stamp {
@@ -361,17 +363,11 @@ impl<'a> Painter<'a> {
 
 // Draws the lines of the workspace. The tables are laid out here, once, and lent; not where no line
 // can touch the lent rows.
-pub fn draw_lines(
-    part: &mut [u8],
-    rows: Rows,
-    ws: &[u8],
-    layout: Layout,
-    lines: usize,
-    window: Window,
-)
-    requires { Lent (length part.old) rows × Lined ws.now lines }
-    ensures { part.new ≡ painted rows (cut window (strokes_in layout.settings ws.now lines)) part.old }
+pub fn draw_lines(part: &mut [u8], rows: Rows, ws: &[u8], laid: Laid, window: Window)
+    requires { Lent (length part.old) rows × Lined ws.now laid.lines }
+    ensures { part.new ≡ painted rows (cut window (strokes_in laid.layout.settings ws.now laid.lines)) part.old }
 {
+    let Laid { layout, lines, .. } = laid;
     if lines == 0 {
         return;
     }

@@ -23,14 +23,14 @@ use tape::{Answer, Cause, Refusal};
 
 // How a picture is divided into stripes, from the top: how many there are, and the end row of each,
 // which is the first row below it. Those from the count on are not read.
-#[derive(Clone, Copy)]
+#[derive(Clone, Copy, Default)]
 pub struct Stripes {
     pub stripe_count: u32,
     pub end_rows: [u32; 64],
 }
 
 // How far a job is: its stripes, and for each how many strokes its rows have had.
-#[derive(Clone, Copy)]
+#[derive(Clone, Copy, Default)]
 pub struct JobRecord {
     pub stripes: Stripes,
     pub counters: [u32; 64],
@@ -66,21 +66,6 @@ impl JobRecord {
     {
         JobRecord {
             stripes: given.used(),
-            counters: [0; 64],
-        }
-    }
-
-    // All zeros.
-    #[tactic(auto, unfolding(crate::specs::Stripes::stripes_with))]
-    fn none() -> JobRecord
-        ensures { result ≡ no_record }
-    {
-        let stripes = Stripes {
-            stripe_count: 0,
-            end_rows: [0; 64],
-        };
-        JobRecord {
-            stripes,
             counters: [0; 64],
         }
     }
@@ -137,7 +122,7 @@ pub fn open(
         }
         Err(refusal) => JobAnswer {
             answer: Err(refusal),
-            job: JobRecord::none(),
+            job: JobRecord::default(),
         },
     }
 }

@@ -17,7 +17,8 @@ use tape::{Cause, Refusal};
 
 pub const MOST_STRIPES: usize = 64;
 
-// Refuses stripes that are too many, or whose ends do not rise from the picture's first row to its height.
+// Refuses stripes that are too many, or whose ends do not rise from the picture's first row to its height. Each end is
+// looked at beside the one before it, 0 before the first, which `is_sorted_by` does not know.
 pub fn check(s: Settings, stripes: Stripes) -> Result<(), Refusal>
     ensures { outcome_of result ≡ unless (stripes_fault s (division_of stripes)) 0 (accepted tt) }
 {
@@ -85,5 +86,5 @@ pub fn draw_stripe(
         first,
     };
     let part = &mut picture[from..to];
-    strokes::draw_lines(part, rows, ws, laid.layout, laid.lines, window);
+    strokes::draw_lines(part, rows, ws, laid, window);
 }

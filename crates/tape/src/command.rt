@@ -1,6 +1,6 @@
 // The tape's commands: what each is, and what is refused in one. They go by their bytes, as in the definitions: an
-// enum would name each a second time. The parts of a state are
-// arguments here, and a tape beside them: what is asked is about one command, whatever has been read.
+// enum would name each a second time. A function takes what it asks about: a tape and a place, and parts of a state or of
+// what a command stands inside, but neither whole.
 ghost use Rattle.std.specs.Prelude.{◌≡◌, true, not, ◌&&◌, ◌||◌, ◌+◌, ◌≤◌, ◌<◌, length, ◌==◌};
 ghost use Rattle.tape.specs.Style.{inside};
 ghost use Rattle.tape.specs.Command.{deepest, most_letters, operand_width, code_point, is_letter, is_opener, is_scalar, added, fault_of, opener_of};

@@ -39,7 +39,7 @@ pub struct Style {
 }
 
 impl Style {
-    // The style of a tape's outer list.
+    // The style of a tape's outer list: by this name, and no `From`, as document 01 has it.
     pub fn default_with(color: [u8; 4]) -> Style
         ensures { result ≡ default_with color }
     {

@@ -1,4 +1,5 @@
-// The ends of a stack's tapes: whether they can be, and whether a tape is too long.
+// The ends of a stack's tapes: whether they can be, and whether a tape is too long. Each is looked at beside the one
+// before it, 0 before the first: `is_sorted` and windows know no such first one.
 ghost use Rattle.std.specs.Prelude.{◌≡◌};
 ghost use Rattle.tape.specs.Stack.{ends_unfit, some_too_long};
 

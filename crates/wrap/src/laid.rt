@@ -12,7 +12,8 @@ pub const TABLE: usize = 40960;
 // Where the totals of letters with ink begin, two bytes for each line.
 pub const INKED: usize = 57344;
 
-// A number in two bytes, high byte first: one line over the library, as `report` has it for programs.
+// A number in two bytes, high byte first: one line over the library, as `report` has it for programs. A
+// `usize`, as all counts of letters are.
 fn two_at(ws: &[u8], at: usize) -> usize
     requires { at + 2 ≤ length ws.now }
     ensures { (result ≡ two_at ws.now at) × (result < two_byte_numbers) }

@@ -23,12 +23,12 @@ returns-then-is_off c =
     let high = c.baseline-high.ensures in
     let low = c.baseline-low.ensures.0 in
     let off = rw (high.0, low, o.0) at (sym c.is_off.ensures ∙ c.if-is_off.true) in
-    (missing a.rows _ _ (outline_of a.layout.settings) (rw high.0 at high.1) (omega arith) off _ a.window a.part.now refl
-    (lines_around a.layout.settings a.lines a.lines 0 0 a.ws.now (omega arith))
+    (missing a.rows _ _ (outline_of a.laid.layout.settings) (rw high.0 at high.1) (omega arith) off _ a.window a.part.now refl
+    (lines_around a.laid.layout.settings a.laid.lines a.laid.lines 0 0 a.ws.now (omega arith))
     ).paints
 
 pub row_offsets-requires : goal.row_offsets-requires
-row_offsets-requires c = rw c.new-italic.ensures (shear_of_lem _ c.args.layout.in_range.slanted)
+row_offsets-requires c = rw c.new-italic.ensures (shear_of_lem _ c.args.laid.layout.in_range.slanted)
 
 pub invariant_of-painter : goal.invariant_of-painter
 invariant_of-painter c = record {
@@ -36,7 +36,7 @@ invariant_of-painter c = record {
       record {
         regular_is = c.table-regular.ensures ∙ ap (λ (f : BitmapFont). table_of f.bold) c.default_regular-font.ensures;
         bold_is = c.table-bold.ensures ∙ ap (λ (f : BitmapFont). table_of f.bold) c.default_bold-heavy.ensures;
-        slanted_is = c.row_offsets.ensures ∙ rw (c.new-italic.ensures, slant_back _ c.args.layout.in_range.slanted);
+        slanted_is = c.row_offsets.ensures ∙ rw (c.new-italic.ensures, slant_back _ c.args.laid.layout.in_range.slanted);
       };
   lined = c.requires.1;
 }
