@@ -163,10 +163,10 @@ fn round(x: f32) -> u8
     requires { Moved x }
     ensures { result ≡ rounded x }
 {
-    let columns = ((std::num::truncating_f32_to_u64(x.abs() * 2.0) + 1) / 2) as u8;
+    let twice = std::num::truncating_f32_to_u64(x.abs() * 2.0);
     if x < 0.0 {
-        UNMOVED - columns
+        UNMOVED - ((twice + 1) / 2) as u8
     } else {
-        UNMOVED + columns
+        UNMOVED + ((twice + 1) / 2) as u8
     }
 }

@@ -9,7 +9,7 @@
 #![tactic(auto)]
 
 ghost use Rattle.std.specs.Prelude.{◌*◌, ◌≤◌, length};
-ghost use Rattle.wrap.specs.Laid.{most_lines};
+ghost use Rattle.wrap.specs.Laid.{two_byte_numbers, most_lines};
 
 use report::{Entries, Entry, SampleError};
 use std::io;
@@ -19,6 +19,7 @@ use tape::Style;
 // How many letters stand on the lines of a table.
 fn letters_on(table: &[u8]) -> usize
     requires { length table.now ≤ 4 * most_lines }
+    ensures { result ≤ two_byte_numbers * most_lines }
 {
     let (lines, _) = table.as_chunks::<4>();
     let mut letters = 0;

@@ -1,8 +1,6 @@
 -- Equal style is equality.
-use mathlib.Core.Path.{◌≡◌, ◌∙◌, refl, ap}
-use mathlib.Core.Bool.{Bool, true, false, not, ◌&&◌, beq}
-use Rattle.std.specs.Prelude.{Option, None, Some}
-use Rattle.std.specs.Option.{option_eq}
+use mathlib.Core.Path.{◌≡◌, ◌∙◌, refl}
+use mathlib.Core.Bool.{Bool, true, false, ◌&&◌, beq}
 use Rattle.std.specs.Cmp.{booleans_Decides, bool_eq_equiv}
 use Rattle.std.proofs.Math.Bool.{and_comm, and_assoc}
 use Rattle.std.proofs.lemmas.Bool.{and_parts}
@@ -10,7 +8,6 @@ use borrow.Author.Tests.{eqb-true, eq-eqb}
 use lib.Dec.{eqb}
 use Rattle.tape.specs.declared.Style.{Style}
 use Rattle.tape.specs.Style.{same_style}
-use Rattle.tape.specs.Marks.{starts}
 
 pub same_eq : (a b : Style) → same_style a b ≡ true → a ≡ b
 unfolding same_style
@@ -45,7 +42,7 @@ abbrev same : Style → Style → Bool
 same a b = eqb a.red b.red && (eqb a.green b.green && (eqb a.blue b.blue && (eqb a.alpha b.alpha && (beq a.bold b.bold && beq a.italic b.italic))))
 
 -- the marks may be compared last
-same_is : (a b : Style) → same a b ≡ same_style a b
+pub same_is : (a b : Style) → same a b ≡ same_style a b
 unfolding same_style
 same_is a b = rw (last (eqb a.alpha b.alpha), past (eqb a.blue b.blue), past (eqb a.green b.green), past (eqb a.red b.red)) refl
   where
@@ -57,8 +54,3 @@ same_is a b = rw (last (eqb a.alpha b.alpha), past (eqb a.blue b.blue), past (eq
 
     last : (x t u : Bool) → (x && (t && u)) ≡ (t && (u && x))
     last x t u = and_comm x (t && u) ∙ and_assoc t u x
-
--- a style that differs from the last run's, or that has no letter before it, starts a run
-pub differs : (l : Option Style) (s : Style) → not (option_eq same l (Some s)) ≡ starts l s
-differs None s = refl
-differs (Some t) s = ap not (same_is t s)

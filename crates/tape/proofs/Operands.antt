@@ -1,13 +1,28 @@
 -- Operand widths, and the numbers that operand bytes spell.
 use mathlib.Core.Path.{◌≡◌, ◌∙◌, refl, ap}
+use mathlib.Core.Bool.{Bool, true, ◌&&◌}
 use mathlib.Core.List.{List, [], ◌∷◌, ◌++◌}
 use Prim.Native.Nat.{ℕ, zero, suc, ◌+◌, ◌-◌, ◌*◌, ◌≤◌, ◌<◌}
 use native.Mathlib.Nat.{add-zero, add_assoc}
 use native.Mathlib.Numerals.{add-one}
 use native.Mathlib.Omega.{arith}
+use lib.Dec.{T, leb, leb→le}
+use lib.Ieee.Fits.{and_l, and_r}
 use lib.ListN.{length, take, drop, get_or, length-drop}
 use lib.Seq.{take-suc, get_or-drop}
-use Rattle.tape.specs.Command.{operand_width, number_from}
+use Rattle.tape.specs.Command.{operand_width, operand_widths, number_from}
+
+abbrev at_most : ℕ → List ℕ → Bool
+at_most m [] = true
+at_most m (x ∷ xs) = leb x m && at_most m xs
+
+most_at : (m : ℕ) (xs : List ℕ) → T (at_most m xs) → (k : ℕ) → get_or xs k 0 ≤ m
+most_at m [] t k = omega arith
+most_at m (x ∷ xs) t zero = leb→le x m (and_l (leb x m) (at_most m xs) t)
+most_at m (x ∷ xs) t (suc k) = most_at m xs (and_r (leb x m) (at_most m xs) t) k
+
+pub operand_width_most : (c : ℕ) → operand_width c ≤ 3
+operand_width_most c = most_at 3 operand_widths tt c
 
 number_snoc : (v : ℕ) (bs : List ℕ) (b : ℕ) → number_from v (bs ++ (b ∷ [])) ≡ number_from v bs * 256 + b
 number_snoc v [] b = refl

@@ -1,17 +1,17 @@
--- Letters of one byte: they have no fault, and storing one reads it.
+-- Letters of one byte: they have no fault, and storing one reads it. Leaves without a fault, of which they are one.
 use mathlib.Core.Path.{◌≡◌, refl, sym, ap, subst}
-use mathlib.Core.Bool.{Bool, true, ◌&&◌, and-false}
+use mathlib.Core.Bool.{Bool, true, false, ◌&&◌, ◌||◌, and-false}
 use mathlib.Core.List.{List, [], ◌∷◌}
 use Prim.Native.Nat.{ℕ, ◌+◌, ◌*◌, ◌≤◌, ◌<◌}
 use native.Mathlib.Omega.{arith}
-use borrow.Author.Tests.{ltb-true, leb-true, eqb-true, lt-ltb}
+use borrow.Author.Tests.{ltb-true, leb-true, eqb-true, lt-ltb, lt-leb}
 use lib.Dec.{leb, ltb, eqb}
 use lib.ListN.{length, get_or, length-drop}
 use Rattle.tape.specs.declared.Style.{Style}
 use Rattle.tape.specs.declared.State.{State}
-use Rattle.tape.specs.Command.{most_letters, operand_width, code_point, is_letter, is_opener, is_scalar, added, shows, command_of}
+use Rattle.tape.specs.Command.{most_letters, operand_width, code_point, is_letter, is_opener, is_scalar, added, fault_of, shows, command_of}
 use Rattle.tape.specs.Runs.{run}
-use Rattle.tape.specs.Reading.{byte_at, rest_at, byte_of, rest_of, place_after, Wrote, Sound, short_letter, WentOn}
+use Rattle.tape.specs.Reading.{byte_at, rest_at, byte_of, rest_of, place_after, Wrote, Sound, short_letter, is_kind, leaf_at, WentOn}
 use Rattle.tape.proofs.Faults.{Clean, no_fault}
 use Rattle.tape.proofs.Operands.{spells_1}
 use Rattle.std.proofs.lemmas.Bool.{and_parts}
@@ -72,3 +72,40 @@ module _ (tape ws : List ℕ) (a : State) (short : ShortLetter tape a.at a.count
   short_read s {ws'} {b} w naming depth =
       went_command tape depth naming s (shows (get_or tape (a.at + 1) 0 ∷ [])) (sound naming depth) is_text
       (subst (λ (p : ℕ). Wrote ws ws' a b (run s (get_or tape (a.at + 1) 0 ∷ []) ∷ []) p) ends_at w)
+
+-- so such a letter is shown
+pub short_shown : (tape : List ℕ) (naming : Bool) (depth at count : ℕ) → get_or tape (at + 1) 0 < 256 → short_letter tape at count ≡ true
+    → leaf_at tape true naming depth at count ≡ true
+unfolding code_point
+short_shown tape naming depth at count byte e =
+    let short = short_letter_lem tape at count e in
+    let whole = short.whole in
+    let n = length-drop (at + 1) tape in
+    let v = spells_1 tape at short.whole in
+    let clean = short_clean naming depth count (rest_at tape at) (omega arith) (omega arith) short.room in
+    rw (short.letter, no_fault naming depth count 2 (rest_at tape at) clean) refl
+
+-- a leaf neither opens nor ends anything
+kind_parts : (shown : Bool) (c : ℕ) → is_kind shown c ≡ true → (0 < c) × (is_opener c ≡ false)
+unfolding is_opener
+kind_parts true c e =
+    let p = and_parts (leb 0x02 c) (leb c 0x05) e in
+    let least = leb-true 0x02 c p.0 in
+    let most = leb-true c 0x05 p.1 in
+    (omega arith, rw (lt-leb 0x06 c (omega arith)) refl)
+kind_parts false c e = one (eqb c 0x01) refl e
+  where
+    one : (t : Bool) → eqb c 0x01 ≡ t → (t || eqb c 0x0b) ≡ true → (0 < c) × (is_opener c ≡ false)
+    one true f h = let is = eqb-true c 0x01 f in (omega arith, rw is refl)
+    one false f h = let is = eqb-true c 0x0b h in (omega arith, rw is refl)
+
+pub record LeafAt (tape : List ℕ) (naming : Bool) (depth at count : ℕ) : Type 0 where
+  pub some : 0 < byte_at tape at
+  pub flat : is_opener (byte_at tape at) ≡ false
+  pub clear : fault_of naming depth count (byte_at tape at) (rest_at tape at) ≡ 0
+
+pub leaf_at_lem : (tape : List ℕ) (shown naming : Bool) (depth at count : ℕ) → leaf_at tape shown naming depth at count ≡ true → LeafAt tape naming depth at count
+leaf_at_lem tape shown naming depth at count e =
+    let p = and_parts (is_kind shown (byte_at tape at)) (eqb (fault_of naming depth count (byte_at tape at) (rest_at tape at)) 0) e in
+    let k = kind_parts shown (byte_at tape at) p.0 in
+    record { some = k.0; flat = k.1; clear = eqb-true _ 0 p.1 }

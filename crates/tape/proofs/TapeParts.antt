@@ -1,8 +1,9 @@
 -- Parts of a tape that are read one after the other are read together.
-use mathlib.Core.Path.{◌≡◌, ◌∙◌, sym, ap, ap₂, subst}
+use mathlib.Core.Path.{◌≡◌, ◌∙◌, refl, sym, ap, ap₂, subst}
 use mathlib.Core.Bool.{Bool}
-use mathlib.Core.List.{List, ◌∷◌, ◌++◌}
-use Prim.Native.Nat.{ℕ, suc, ◌+◌, ◌*◌, ◌<◌}
+use mathlib.Core.List.{List, [], ◌∷◌, ◌++◌}
+use Prim.Native.Nat.{ℕ, suc, ◌+◌, ◌*◌, ◌≤◌, ◌<◌}
+use native.Mathlib.Nat.{add-zero}
 use native.Mathlib.Numerals.{add-one}
 use native.Mathlib.Omega.{arith}
 use lib.ListN.{length, length-drop}
@@ -11,7 +12,7 @@ use Rattle.tape.specs.declared.Style.{Style}
 use Rattle.tape.specs.declared.State.{State}
 use Rattle.tape.specs.declared.refusal.Refusal.{Refusal}
 use Rattle.std.specs.Prelude.{Result, Ok, Err}
-use Rattle.tape.specs.Command.{added, fault_of, Command, command_of}
+use Rattle.tape.specs.Command.{most_letters, added, fault_of, Command, command_of}
 use Rattle.tape.specs.Runs.{Run}
 use Rattle.tape.specs.Tape.{Frame, frame, says, next, after}
 use Rattle.tape.specs.Marks.{marked}
@@ -19,7 +20,7 @@ use Rattle.tape.specs.TapeRead.{stored_letters}
 use Rattle.tape.specs.Reading.{Wrote, byte_of, rest_of, place_after, Sound, Went, Stopped, Reads, Onward, from}
 use Rattle.tape.proofs.Commands.{says_added}
 use Rattle.tape.proofs.Faults.{Clean, clean}
-use Rattle.tape.proofs.MeaningSteps.{after_after, command_from, fault_from}
+use Rattle.tape.proofs.MeaningSteps.{after_none, after_after, command_from, fault_from}
 use Rattle.tape.proofs.StoredRuns.{wrote_then}
 
 pub wrote_length : {ws ws' : List ℕ} {a b : State} {rs : List Run} {at : ℕ} → Wrote ws ws' a b rs at → length ws' ≡ length ws
@@ -32,6 +33,19 @@ reframed : {tape u v : List ℕ} {d d' : ℕ} {X Y X' Y' : List Style → Frame}
 reframed h same = record { runs = h.runs; stored = h.stored; on = h.on; to = h.to; few = h.few; same = same }
 
 module _ (tape : List ℕ) (depth : ℕ) where
+  -- nothing has been read yet
+  pub went_none : (X : List Style → Frame) (ws : List ℕ) (a : State) → a.at ≤ length tape → a.count ≤ most_letters
+      → Went tape ws ws depth X X a a
+  went_none X ws a h k =
+      record {
+        runs = [];
+        stored = record { state = rw add-zero; bytes = refl };
+        on = omega arith;
+        to = h;
+        few = k;
+        same = λ around e. sym (after_none _);
+      }
+
   pub went_then : {X Y Z : List Style → Frame} {u v w : List ℕ} {a b c : State} → Went tape u v depth X Y a b → Went tape v w depth Y Z b c
       → Went tape u w depth X Z a c
   went_then {Z = Z} {c = c} h k =

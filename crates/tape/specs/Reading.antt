@@ -1,5 +1,5 @@
 -- Promises: what the reader's functions ask of and tell each other. No reader of the deposit needs this file.
-use Rattle.std.specs.Prelude.{◌≡◌, Bool, false, not, ◌&&◌, List, ℕ, ◌+◌, ◌*◌, ◌≤◌, ◌<◌, length, drop, nat_le, nat_lt, slice_index, ◌==◌, Result, Ok, Err}
+use Rattle.std.specs.Prelude.{◌≡◌, Bool, true, false, not, ◌&&◌, ◌||◌, List, ℕ, ◌+◌, ◌*◌, ◌≤◌, ◌<◌, length, drop, nat_le, nat_lt, slice_index, ◌==◌, Result, Ok, Err}
 use Rattle.tape.specs.declared.Style.{Style}
 use Rattle.tape.specs.declared.State.{State}
 use Rattle.tape.specs.declared.refusal.Refusal.{Refusal}
@@ -88,6 +88,14 @@ unfoldable pub short_letter : List ℕ → ℕ → ℕ → Bool
 short_letter tape at count =
     byte_at tape at == 0x02 && (nat_le (operand_width 0x02) (length (rest_at tape at)) && nat_lt count most_letters)
 
+-- whether it is a leaf without a fault: a letter or a break, or an empty text or a time mark
+abbrev pub is_kind : Bool → ℕ → Bool
+is_kind true c = nat_le 0x02 c && nat_le c 0x05
+is_kind false c = c == 0x01 || c == 0x0b
+
+abbrev pub leaf_at : List ℕ → Bool → Bool → ℕ → ℕ → ℕ → Bool
+leaf_at tape shown naming depth at count = is_kind shown (byte_at tape at) && fault_of naming depth count (byte_at tape at) (rest_at tape at) == 0
+
 -- ---- what is told
 
 -- what the tape means from a place on, after n letters
@@ -138,6 +146,11 @@ WentOn tape ws ws' s a b = (naming : Bool) (depth : ℕ) → Went tape ws ws' de
 pub record LettersRead (tape ws ws' : List ℕ) (a : State) (s : Style) (b : State) : Type 0 where
   pub went : WentOn tape ws ws' s a b
   pub stops : b.at < length tape → short_letter tape b.at b.count ≡ false
+
+-- leaves of a kind were read, all that follow
+pub record LeavesRead (tape ws ws' : List ℕ) (shown naming : Bool) (depth : ℕ) (a : State) (s : Style) (b : State) : Type 0 where
+  pub went : Went tape ws ws' depth (within s naming) (within s naming) a b
+  pub stops : b.at < length tape → leaf_at tape shown naming depth b.at b.count ≡ false
 
 -- a leaf, a segment, and a list or a name were read
 abbrev pub LeafRead : List ℕ → List ℕ → List ℕ → State → Style → State → Type 0

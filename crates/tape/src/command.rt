@@ -6,7 +6,7 @@ ghost use Rattle.tape.specs.Style.{inside};
 ghost use Rattle.tape.specs.Command.{deepest, most_letters, operand_width, code_point, is_letter, is_opener, is_scalar, added, fault_of, opener_of};
 ghost use Rattle.tape.specs.Outcome.{accepted, unless};
 ghost use Rattle.tape.specs.Answer.{outcome_of};
-ghost use Rattle.tape.specs.Reading.{most_added, byte_at, rest_at, no_scalar, short_letter};
+ghost use Rattle.tape.specs.Reading.{most_added, leaf_at, byte_at, rest_at, no_scalar, short_letter};
 
 use crate::{Cause, Refusal, Style};
 
@@ -107,7 +107,9 @@ fn is_stray_end(c: u8, naming: bool, depth: usize) -> bool
     c == 0x00 && is_outer(naming, depth)
 }
 
-// The first fault of the command at a place.
+// The first fault of the command at a place. Laid into each loop: as a call its answer is handed over in memory, and a
+// letter of one byte takes three times the instructions.
+#[inline(always)]
 #[tactic(auto, unfolding(crate::specs::Command::fault_of))]
 pub fn check(
     tape: &[u8],
@@ -145,13 +147,39 @@ pub fn check(
     Ok(())
 }
 
-// Whether the command at a place is a letter of one byte, and has room.
+// Whether the command at a place is a letter of one byte, and has room: it has no fault then.
 #[tactic(auto, unfolding(crate::specs::Reading::short_letter))]
 pub fn is_short_letter(tape: &[u8], at: usize, count: usize) -> bool
     requires { at < length tape.now }
     ensures { result ≡ short_letter tape.now at count }
 {
     tape[at] == 0x02 && operand_width(0x02) <= tape.len() - (at + 1) && count < MOST_LETTERS
+}
+
+// Whether the command at a place is a leaf without a fault: a letter or a break, or else an empty text or a time mark.
+// Most are letters of one byte, which are looked at first.
+#[inline(always)]
+pub fn is_leaf(
+    tape: &[u8],
+    at: usize,
+    count: usize,
+    naming: bool,
+    depth: usize,
+    shown: bool,
+) -> bool
+    requires { (at < length tape.now) × (count ≤ most_letters) }
+    ensures { result ≡ leaf_at tape.now shown naming depth at count }
+{
+    if shown && is_short_letter(tape, at, count) {
+        return true;
+    }
+    let c = tape[at];
+    let kind = if shown {
+        matches!(c, 0x02..=0x05)
+    } else {
+        matches!(c, 0x01 | 0x0b)
+    };
+    kind && check(tape, at, count, naming, depth).is_ok()
 }
 
 // The style inside a list that the command at a place opens.

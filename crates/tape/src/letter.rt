@@ -14,15 +14,45 @@ fn flags(s: Style, start: bool) -> u8
     u8::from(s.bold) + 2 * u8::from(s.italic) + 4 * u8::from(start)
 }
 
-// Stores letter number `count`.
+// Stores letter number `count`, byte by byte: an array that is copied may be made on the stack first, and reading then
+// takes up to twice as long.
 pub fn put_letter(ws: &mut [u8], count: usize, code: u32, s: Style, start: bool)
     requires { (8 * count + 8 ≤ length ws.old) × (code < 16777216) }
     ensures { ws.new ≡ sets ws.old (8 * count) (stored_letter code s start) }
 {
     let [_, high, middle, low] = code.to_be_bytes();
+    let i = 8 * count;
+    ws[i] = high;
+    ws[i + 1] = middle;
+    ws[i + 2] = low;
+    ws[i + 3] = s.red;
+    ws[i + 4] = s.green;
+    ws[i + 5] = s.blue;
+    ws[i + 6] = s.alpha;
+    ws[i + 7] = flags(s, start);
+}
+
+// Puts eight bytes into as many, as one value.
+#[inline(always)]
+fn put_bytes(slot: &mut [u8], letter: [u8; 8])
+    requires { length slot.old ≡ 8 }
+    ensures { slot.new ≡ letter }
+{
+    if let Some(bytes) = slot.as_mut_array() {
+        *bytes = letter;
+    }
+}
+
+// The same of a code point of one byte, as one value: where such letters follow one another all but the code point stays,
+// and each is one sum and one store.
+#[inline(always)]
+pub fn put_short_letter(ws: &mut [u8], count: usize, code: u8, s: Style, start: bool)
+    requires { 8 * count + 8 ≤ length ws.old }
+    ensures { ws.new ≡ sets ws.old (8 * count) (stored_letter code s start) }
+{
     let flags = flags(s, start);
-    let letter = [high, middle, low, s.red, s.green, s.blue, s.alpha, flags];
-    ws[8 * count..8 * count + 8].copy_from_slice(&letter);
+    let letter = [0, 0, code, s.red, s.green, s.blue, s.alpha, flags];
+    put_bytes(&mut ws[8 * count..8 * count + 8], letter);
 }
 
 // The code point of a stored letter.

@@ -20,7 +20,7 @@ ghost use Rattle.tape.specs.Reading.{wrote, Wrote};
 ghost use Rattle.tape.specs.Answer.{outcome_of};
 
 use reader::Inside;
-pub use refusal::{Answer, Cause, Refusal, packed};
+pub use refusal::{Answer, Cause, Refusal, packed, packed_refusal};
 
 // The most bytes of a tape, and the least of a workspace.
 pub const MOST_BYTES: usize = 16384;
@@ -76,7 +76,10 @@ impl State {
     fn begins(self, s: Style) -> bool
         ensures { result ≡ starts self.last s }
     {
-        self.last != Some(s)
+        match self.last {
+            Some(last) => last != s,
+            None => true,
+        }
     }
 
     // Passes an empty text.
@@ -98,6 +101,21 @@ impl State {
     {
         let count = self.count;
         letter::put_letter(ws, count, code, s, self.begins(s));
+        State {
+            at: next,
+            count: count + 1,
+            last: Some(s),
+        }
+    }
+
+    // The same of a code point of one byte.
+    #[inline(always)]
+    fn put_short(self, ws: &mut [u8], s: Style, code: u8, next: usize) -> State
+        requires { 8 * self.count + 8 ≤ length ws.old }
+        ensures { Wrote ws.old ws.new self result (run s (code ∷ []) ∷ []) next }
+    {
+        let count = self.count;
+        letter::put_short_letter(ws, count, code, s, self.begins(s));
         State {
             at: next,
             count: count + 1,

@@ -1,8 +1,8 @@
 // The reader's parts: a list is read by reading segments, and a segment by reading its list. Tape, workspace and
 // state stay arguments: one is read, one written, and one given back.
 ghost use Rattle.std.specs.Prelude.{◌≡◌, true, false, ◌+◌, ◌≤◌, ◌<◌};
-ghost use Rattle.tape.specs.Command.{deepest};
-ghost use Rattle.tape.specs.Reading.{byte_of, Ready, Sound, Leaf, LeafRead, LettersRead, SegmentRead, ListRead};
+ghost use Rattle.tape.specs.Command.{deepest, is_opener};
+ghost use Rattle.tape.specs.Reading.{byte_of, Ready, Sound, Leaf, LeafRead, LettersRead, LeavesRead, SegmentRead, ListRead};
 
 use crate::{Cause, Refusal, State, Style, command};
 
@@ -41,6 +41,7 @@ impl Inside {
 }
 
 // A text, a break or a time mark.
+#[inline(always)]
 fn read_leaf(tape: &[u8], ws: &mut [u8], st: State, style: Style) -> State
     requires { Leaf tape.now ws.old st }
     ensures { LeafRead tape.now ws.old ws.new st style result }
@@ -58,6 +59,7 @@ fn read_leaf(tape: &[u8], ws: &mut [u8], st: State, style: Style) -> State
 
 // Letters of one byte, as many as follow. Most commands are such letters: they have no fault, and
 // behind the first of them no run starts, which this loop lets the compiler see.
+#[inline(always)]
 fn read_letters(tape: &[u8], ws: &mut [u8], st: State, style: Style) -> State
     requires { Ready tape.now ws.old st }
     ensures { LettersRead tape.now ws.old ws.new st style result }
@@ -65,7 +67,30 @@ fn read_letters(tape: &[u8], ws: &mut [u8], st: State, style: Style) -> State
     let mut after = st;
     while after.at < tape.len() && command::is_short_letter(tape, after.at, after.count) {
         let next = after.at + 1 + command::operand_width(0x02);
-        after = after.put(ws, style, u32::from(tape[after.at + 1]), next);
+        after = after.put_short(ws, style, tape[after.at + 1], next);
+    }
+    after
+}
+
+// Leaves without a fault, as many as follow: letters and breaks, or the others. Each kind has a loop, since behind a
+// letter or a break no run starts, which a loop of these alone lets the compiler see.
+#[inline(always)]
+fn read_leaves(tape: &[u8], ws: &mut [u8], st: State, inside: Inside, shown: bool) -> State
+    requires { Ready tape.now ws.old st }
+    ensures { LeavesRead tape.now ws.old ws.new shown inside.naming inside.depth st inside.style result }
+{
+    let mut after = st;
+    while after.at < tape.len()
+        && command::is_leaf(
+            tape,
+            after.at,
+            after.count,
+            inside.naming,
+            inside.depth,
+            shown,
+        )
+    {
+        after = read_leaf(tape, ws, after, inside.style);
     }
     after
 }
@@ -84,8 +109,14 @@ pub fn read_list(tape: &[u8], ws: &mut [u8], st: State, inside: Inside) -> Resul
         if tape[at] == 0x00 {
             return Ok(s.finish(ws, inside.style, inside.naming, at + 1));
         }
-        let after = read_segment(tape, ws, s, inside)?;
-        s = read_letters(tape, ws, after, inside.style);
+        if command::is_opener(tape[at]) {
+            s = read_segment(tape, ws, s, inside)?;
+        } else {
+            let leaf = read_leaf(tape, ws, s, inside.style);
+            let letters = read_letters(tape, ws, leaf, inside.style);
+            let silent = read_leaves(tape, ws, letters, inside, false);
+            s = read_leaves(tape, ws, silent, inside, true);
+        }
     }
     if command::is_outer(inside.naming, inside.depth) {
         return Ok(s);
@@ -93,17 +124,14 @@ pub fn read_list(tape: &[u8], ws: &mut [u8], st: State, inside: Inside) -> Resul
     Err(Cause::Unbalanced.at(tape.len()))
 }
 
-// One segment, with its list where it has one. The name of a voice is read as a list is.
+// One segment that has a list. The name of a voice is read as a list is.
 #[cycle(lists)]
 fn read_segment(tape: &[u8], ws: &mut [u8], st: State, inside: Inside) -> Result<State, Refusal>
-    requires { Sound tape.now ws.old st inside.naming inside.depth × (0 < byte_of tape.now st) }
+    requires { Sound tape.now ws.old st inside.naming inside.depth × (is_opener (byte_of tape.now st) ≡ true) }
     ensures { SegmentRead tape.now ws.old ws.new inside.naming inside.depth st inside.style result }
 {
     let at = st.at;
     let c = tape[at];
-    if !command::is_opener(c) {
-        return Ok(read_leaf(tape, ws, st, inside.style));
-    }
     let opened = st.onto(at + 1 + command::operand_width(c));
     if c == 0x09 {
         let named = read_list(tape, ws, opened, inside.name_in())?;

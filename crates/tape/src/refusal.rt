@@ -1,6 +1,7 @@
 // What a call answers: how many letters, lines or strokes there are, or were drawn; or why it is refused, and where.
 ghost use Rattle.std.specs.Prelude.{◌≡◌, Some};
 ghost use Rattle.std.specs.Fmt.{DisplaysOnOk};
+ghost use Rattle.tape.specs.Outcome.{refused};
 ghost use Rattle.tape.specs.Answer.{number_of, outcome_of, printed};
 ghost use Rattle.tape.specs.Packed.{packed};
 ghost use Rattle.tape.specs.Near.{Near};
@@ -62,6 +63,14 @@ impl Error for Refusal {}
 
 pub type Answer = Result<usize, Refusal>;
 
+// A refusal as one number, whatever its own number is.
+pub fn packed_refusal(number: u8, place: usize) -> u64
+    requires { Near (refused number place) }
+    ensures { result ≡ packed (refused number place) }
+{
+    number as u64 * 0x1_0000_0000 + place as u64
+}
+
 // An answer as one number: itself, or the refusal's number times 2^32 and its place. No `From`: neither
 // type is of this crate.
 pub fn packed(answer: Answer) -> u64
@@ -70,6 +79,6 @@ pub fn packed(answer: Answer) -> u64
 {
     match answer {
         Ok(n) => n as u64,
-        Err(refusal) => refusal.cause.number() as u64 * 0x1_0000_0000 + refusal.place as u64,
+        Err(refusal) => packed_refusal(refusal.cause.number(), refusal.place),
     }
 }

@@ -1,16 +1,23 @@
-use Rattle.std.proofs.Common.{arith}
+use Rattle.std.proofs.Common.{rules, arith}
 use mathlib.Core.Path.{refl}
 use Rattle.std.proofs.lemmas.Result.{err_from_is_err_and}
+use Rattle.tape.specs.Outcome.{refused}
+use Rattle.tape.specs.TapeRead.{TapeRead}
 use Rattle.tape.proofs.CallRead.{too_long, too_small, tape_refused, tape_accepted}
 use Rattle.tape.proofs.read_tape.Goals as goal
 
 pub returns-then-tape-gt-MOST_BYTES : goal.returns-then-tape-gt-MOST_BYTES
-returns-then-tape-gt-MOST_BYTES c = let a = c.args in rw c.at.ensures (too_long a.tape.now a.ws.now a.style c.if-tape-gt-MOST_BYTES.true)
+returns-then-tape-gt-MOST_BYTES c =
+    let a = c.args in
+    let long : TapeRead a.tape.now a.ws.now a.ws.now a.style (refused 10 0) = too_long a.tape.now a.ws.now a.style c.if-tape-gt-MOST_BYTES.true in
+    search rules
 
 pub returns-then-ws-lt-LEAST_ROOM : goal.returns-then-ws-lt-LEAST_ROOM
 returns-then-ws-lt-LEAST_ROOM c =
     let a = c.args in
-    rw c.at-then-ws-lt-LEAST_ROOM.ensures (too_small a.tape.now a.ws.now a.style (omega arith) c.if-ws-lt-LEAST_ROOM.true)
+    let short : TapeRead a.tape.now a.ws.now a.ws.now a.style (refused 11 0) =
+    too_small a.tape.now a.ws.now a.style (omega arith) c.if-ws-lt-LEAST_ROOM.true in
+    search rules
 
 pub returns : goal.returns
 returns c =

@@ -1,6 +1,6 @@
-use Rattle.std.proofs.Common.{◌∙◌}
-use Rattle.tape.proofs.EqualStyles.{differs}
+use Rattle.std.proofs.Common.{not, ap, ◌∙◌}
+use Rattle.tape.proofs.EqualStyles.{same_is}
 use Rattle.tape.proofs.State.begins.Goals as goal
 
-pub returns : goal.returns
-returns c = c.ne.ensures ∙ differs c.args.self.last c.args.s
+pub returns-in-Some : goal.returns-in-Some
+returns-in-Some c = rw c.in-Some.is (c.ne.ensures ∙ ap not (same_is c.in-Some.last c.args.s))

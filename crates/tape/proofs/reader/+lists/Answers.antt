@@ -1,5 +1,5 @@
 -- `read_list` and `read_segment` meet their contracts.
-use Rattle.std.proofs.Common.{◌≡◌, ℕ, ◌+◌, ◌<◌, false, true, [], length, refl, sym, ap, ◌∙◌, add-zero, arith, length-drop}
+use Rattle.std.proofs.Common.{◌≡◌, ℕ, ◌+◌, ◌<◌, false, [], length, refl, sym, ap, ◌∙◌, add-zero, arith, length-drop}
 use Rattle.tape.specs.declared.State.{State}
 use Rattle.tape.specs.Outcome.{refused}
 use Rattle.tape.specs.Command.{deepest, is_letter, is_opener, added, Command, ends, opens, names, opener_of, command_of}
@@ -12,7 +12,7 @@ use Rattle.tape.proofs.MeaningSteps.{end_from, end_inside}
 use Rattle.tape.proofs.TapeParts.{wrote_length, went_then, went_stopped, stopped_fault, went_command, then_reads, inner_reads, onward}
 use Rattle.std.proofs.lemmas.Result.{err_from_is_err_and}
 use Rattle.tape.proofs.reader.+lists.Goals as goal
-use Rattle.tape.proofs.reader.+lists.Goals.{read_list-In_ok-check, read_segment-Else-not-is_opener, read_segment-After-onto-opened, read_segment-Else-c-eq9, read_segment-Then-c-eq9}
+use Rattle.tape.proofs.reader.+lists.Goals.{read_list-In_ok-check, read_list-Else-is_opener, read_list-After-read_leaf-leaf, read_list-After-read_letters-letters, read_segment-Start, read_segment-After-onto-opened, read_segment-Else-c-eq9, read_segment-Then-c-eq9}
 
 -- ---- a list
 
@@ -55,16 +55,71 @@ read_list-returns-then-tape-at-eq0 t c =
       λ list d. absurd (not_outer (clean _ _ _ _ _ ok.clear) zero list d),
     )
 
+-- a segment with a list
+pub read_list-loop-s-preserved-then-is_opener : goal.read_list-loop-s-preserved-then-is_opener
+read_list-loop-s-preserved-then-is_opener t c = went_then _ _ c.loop-s.invariant (c.in_ok-s.ensures {u = tt}).0
+
+-- a leaf: it neither opens nor ends anything
+some : (t : ℕ) (c : read_list-Else-is_opener t) → 0 < byte_of c.args.tape.now c.loop-s.s
+some t c = let h = c.if-tape-at-eq0.false in omega arith
+
+flat : (t : ℕ) (c : read_list-Else-is_opener t) → is_opener (byte_of c.args.tape.now c.loop-s.s) ≡ false
+flat t c = sym c.is_opener.ensures ∙ c.if-is_opener.false
+
+pub read_list-read_leaf-leaf-requires : goal.read_list-read_leaf-leaf-requires
+read_list-read_leaf-leaf-requires t c =
+    let e = goal.at.read_list-read_leaf-leaf-requires t c in
+    leaf _ _ c.args.inside.naming _ _ (sound t e.In_ok-check) (some t e.Else-is_opener) (flat t e.Else-is_opener)
+
+went : (t : ℕ) (c : read_list-After-read_leaf-leaf t) → let i = c.args.inside in
+    Went c.args.tape.now c.args.ws.now c.read_leaf-leaf.new.ws i.depth (within i.style i.naming) (within i.style i.naming) c.args.st c.read_leaf-leaf.result
+went t c =
+    let e = goal.at.read_list-After-read_leaf-leaf t c in
+    let a = c.args in
+    went_then _ _ c.loop-s.invariant
+    (went_leaf a.tape.now a.inside.depth a.inside.naming _ _ (sound t e.In_ok-check) (some t e.Else-is_opener) (flat t e.Else-is_opener) a.inside.style _ _ c.read_leaf-leaf.ensures)
+
+pub read_list-read_letters-letters-requires : goal.read_list-read_letters-letters-requires
+read_list-read_letters-letters-requires t c =
+    let w = went t (goal.at.read_list-read_letters-letters-requires t c).After-read_leaf-leaf in
+    let same = wrote_length w.stored in
+    let space = c.requires.space in
+    record { on = w.to; few = w.few; space = omega arith }
+
+-- and the letters behind it
+lettered : (t : ℕ) (c : read_list-After-read_letters-letters t) → let i = c.args.inside in
+    Went c.args.tape.now c.args.ws.now c.read_letters-letters.new.ws i.depth (within i.style i.naming) (within i.style i.naming) c.args.st c.read_letters-letters.result
+lettered t c =
+    went_then _ _ (went t (goal.at.read_list-After-read_letters-letters t c).After-read_leaf-leaf)
+    (c.read_letters-letters.ensures.went c.args.inside.naming c.args.inside.depth)
+
+pub read_list-read_leaves-silent-requires : goal.read_list-read_leaves-silent-requires
+read_list-read_leaves-silent-requires t c =
+    let w = lettered t (goal.at.read_list-read_leaves-silent-requires t c).After-read_letters-letters in
+    let same = wrote_length w.stored in
+    let space = c.requires.space in
+    record { on = w.to; few = w.few; space = omega arith }
+
+pub read_list-read_leaves-s-requires : goal.read_list-read_leaves-s-requires
+read_list-read_leaves-s-requires t c =
+    let w = went_then _ _ (lettered t (goal.at.read_list-read_leaves-s-requires t c).After-read_letters-letters) c.read_leaves-silent.ensures.went in
+    let same = wrote_length w.stored in
+    let space = c.requires.space in
+    record { on = w.to; few = w.few; space = omega arith }
+
 pub read_list-loop-s-smaller : goal.read_list-loop-s-smaller
 read_list-loop-s-smaller t c =
-    let one = (c.in_ok-after.ensures {u = tt}).1 in
-    let more = (c.read_letters-s.ensures.went c.args.inside.naming c.args.inside.depth).on in
+    let one = ap (λ (x : State). x.at) c.read_leaf-leaf.ensures.state in
+    let some = (c.read_letters-letters.ensures.went c.args.inside.naming c.args.inside.depth).on in
+    let more = c.read_leaves-silent.ensures.went.on in
+    let most = c.read_leaves-s.ensures.went.on in
     let h = c.loop-s-test.true in
     omega arith
 
 pub read_list-loop-s-preserved : goal.read_list-loop-s-preserved
 read_list-loop-s-preserved t c =
-    went_then _ _ (went_then _ _ c.loop-s.invariant (c.in_ok-after.ensures {u = tt}).0) (c.read_letters-s.ensures.went c.args.inside.naming c.args.inside.depth)
+    let w = lettered t (goal.at.read_list-loop-s-preserved t c).After-read_letters-letters in
+    went_then _ _ (went_then _ _ w c.read_leaves-silent.ensures.went) c.read_leaves-s.ensures.went
 
 pub read_list-returns : goal.read_list-returns
 read_list-returns t c =
@@ -83,25 +138,9 @@ read_list-returns t c =
 
 -- ---- a segment
 
-pub read_segment-read_leaf-requires : goal.read_segment-read_leaf-requires
-read_segment-read_leaf-requires t c =
-    leaf _ _ c.args.inside.naming _ _ c.requires.0 c.requires.1 (sym c.is_opener.ensures ∙ c.if-not-is_opener.true)
-
-pub read_segment-returns-then-not-is_opener : goal.read_segment-returns-then-not-is_opener
-read_segment-returns-then-not-is_opener t c =
-    let a = c.args in
-    let flat = sym c.is_opener.ensures ∙ c.if-not-is_opener.true in
-    let at = ap (λ (x : State). x.at) c.read_leaf.ensures.state in (
-      went_leaf a.tape.now a.inside.depth a.inside.naming _ _ c.requires.0 c.requires.1 flat a.inside.style _ _ c.read_leaf.ensures,
-      omega arith,
-    )
-
--- it opens a list, and stands in one
-opener : (t : ℕ) (c : read_segment-Else-not-is_opener t) → is_opener (byte_of c.args.tape.now c.args.st) ≡ true
-opener t c = sym c.is_opener.ensures ∙ c.if-not-is_opener.false
-
-in_list : (t : ℕ) (c : read_segment-Else-not-is_opener t) → c.args.inside.naming ≡ false
-in_list t c = opens_in_list c.args.inside.naming (clean _ _ _ _ _ c.requires.0.clear) (opener t c)
+-- it stands in a list
+in_list : (t : ℕ) (c : read_segment-Start t) → c.args.inside.naming ≡ false
+in_list t c = opens_in_list c.args.inside.naming (clean _ _ _ _ _ c.requires.0.clear) c.requires.1
 
 pub read_segment-operand_width-requires : goal.read_segment-operand_width-requires
 read_segment-operand_width-requires t c = (clean _ _ _ _ _ c.requires.0.clear).known
@@ -135,16 +174,16 @@ read_segment-returns-in_err-named t c =
     rw (p.1, p.2) (went_stopped a.tape.now a.inside.depth opened (rw (name.0, name.1, name.2) at (c.in_err-named.ensures {u = tt})).0, tt)
 
 -- the list that it opens is not too deep
-shallow : (t : ℕ) (c : read_segment-Else-not-is_opener t) → c.args.inside.depth < deepest
+shallow : (t : ℕ) (c : read_segment-Start t) → c.args.inside.depth < deepest
 shallow t c =
     let deep = c.args.inside.shallow in
-    omega (arith, not_deepest (clean _ _ _ _ _ c.requires.0.clear) (opener t c))
+    omega (arith, not_deepest (clean _ _ _ _ _ c.requires.0.clear) c.requires.1)
 
 pub read_segment-list_in-requires : goal.read_segment-list_in-requires
-read_segment-list_in-requires t c = shallow t (goal.at.read_segment-list_in-requires t c).Else-not-is_opener
+read_segment-list_in-requires t c = shallow t (goal.at.read_segment-list_in-requires t c).Start
 
 pub read_segment-list_in-requires-2 : goal.read_segment-list_in-requires-2
-read_segment-list_in-requires-2 t c = shallow t (goal.at.read_segment-list_in-requires-2 t c).Else-not-is_opener
+read_segment-list_in-requires-2 t c = shallow t (goal.at.read_segment-list_in-requires-2 t c).Start
 
 pub read_segment-read_list-requires : goal.read_segment-read_list-requires
 read_segment-read_list-requires t c =
@@ -179,7 +218,7 @@ read_segment-returns-then-c-eq9 t c =
     let r = c.read_list-then-c-eq9.result in
     let own = rw (list.0, list.1, list.2) at c.read_list-then-c-eq9.ensures.0 in
     let inner = inner_reads a.tape.now a.inside.depth (within a.inside.style false) (past a.inside.style false) _ _ _ a.inside.style r own in (
-      then_reads a.tape.now a.inside.depth (within a.inside.style a.inside.naming) _ r named (rw (in_list t e.Else-not-is_opener) inner),
+      then_reads a.tape.now a.inside.depth (within a.inside.style a.inside.naming) _ r named (rw (in_list t e.Start) inner),
       onward a.tape.now a.inside.depth _ _ _ _ a.st _ r (omega arith) inner,
     )
 
@@ -198,7 +237,7 @@ opened : (t : ℕ) (c : read_segment-Else-c-eq9 t) → let a = c.args in
 opened t c =
     let e = goal.at.read_segment-Else-c-eq9 t c in
     let o = opener_of (byte_of c.args.tape.now c.args.st) (rest_of c.args.tape.now c.args.st) in
-    passed t e.After-onto-opened (opens o) (open_command _ _ (opener t e.Else-not-is_opener) c.if-c-eq9.false) refl
+    passed t e.After-onto-opened (opens o) (open_command _ _ c.requires.1 c.if-c-eq9.false) refl
 
 pub read_segment-read_list-requires-2 : goal.read_segment-read_list-requires-2
 read_segment-read_list-requires-2 t c =
@@ -220,6 +259,6 @@ read_segment-returns t c =
     let own = rw (list.0, list.1, list.2) at c.read_list-2.ensures.0 in
     let inner = inner_reads a.tape.now a.inside.depth (within style false) (past style false) _ _ _ a.inside.style r own in (
       then_reads a.tape.now a.inside.depth (within a.inside.style a.inside.naming) _ r (opened t e.Else-c-eq9)
-          (rw (in_list t e.Else-not-is_opener, ← c.style_inside-style.ensures) inner),
+          (rw (in_list t e.Start, ← c.style_inside-style.ensures) inner),
       onward a.tape.now a.inside.depth _ _ _ _ a.st _ r (on t e.After-onto-opened) inner,
     )

@@ -6,13 +6,12 @@ use Rattle.tape.proofs.reader.read_letters.Goals as goal
 pub bounds-tape-after : goal.bounds-tape-after
 bounds-tape-after c = (short_letter_lem _ _ _ (sym (c.if-is_short_letter.ensures {u = tt}))).whole
 
-pub put-after-requires : goal.put-after-requires
-put-after-requires c =
+pub put_short-after-requires : goal.put_short-after-requires
+put_short-after-requires c =
     let same = wrote_length (c.loop-after.invariant false 0).stored in
     let space = c.requires.space in
     let room = (short_letter_lem _ _ _ (sym (c.if-is_short_letter.ensures {u = tt}))).room in
-    let byte = c.type_inv.tape (c.loop-after.after.at + 1) in
-    (omega arith, omega arith)
+    omega arith
 
 pub loop-after-preserved : goal.loop-after-preserved
 loop-after-preserved c =
@@ -25,4 +24,4 @@ loop-after-preserved c =
     λ naming depth.
     went_then a.tape.now depth (l.invariant naming depth)
     (short_read a.tape.now l.ws l.after short (omega arith) (omega arith) a.style
-    (rw (c.from.ensures, c.operand_width.ensures.0) at c.put-after.ensures) naming depth)
+    (rw (c.operand_width.ensures.0) at c.put_short-after.ensures) naming depth)
