@@ -8,7 +8,7 @@ pub mod Copied  -- for the layers above too: bytes copied into a part of a buffe
 pub mod StoredRuns  -- runs stored one after the other are stored together
 pub mod TapeParts  -- parts of a tape that are read one after the other are read together
 pub mod LeafCommands  -- commands that neither open nor end anything
-pub mod ShortLetters  -- letters and breaks without a fault
+pub mod ShortLetters  -- letters of one byte, and other leaves without a fault
 pub mod MarkedRuns  -- letters made run by run are those of the merged runs
 pub mod Bounds  -- what a tape comes to is bounded
 pub mod Calls  -- the contract of a call, for every call: how it is met, what an answer tells

@@ -17,7 +17,7 @@ use Rattle.tape.specs.Runs.{Run}
 use Rattle.tape.specs.Tape.{Frame, frame, says, next, after}
 use Rattle.tape.specs.Marks.{marked}
 use Rattle.tape.specs.TapeRead.{stored_letters}
-use Rattle.tape.specs.Reading.{Wrote, byte_of, rest_of, place_after, Sound, Went, Stopped, Reads, Onward, from}
+use Rattle.tape.specs.Reading.{Wrote, byte_of, rest_of, place_after, Ready, Sound, Went, Stopped, Reads, Onward, from}
 use Rattle.tape.proofs.Commands.{says_added}
 use Rattle.tape.proofs.Faults.{Clean, clean}
 use Rattle.tape.proofs.MeaningSteps.{after_none, after_after, command_from, fault_from}
@@ -57,6 +57,11 @@ module _ (tape : List ℕ) (depth : ℕ) where
         few = k.few;
         same = λ around e. h.same around e ∙ ap (after h.runs) (k.same around e) ∙ after_after h.runs k.runs (from tape (Z around) c.at c.count);
       }
+
+  -- and from there it can be read on
+  pub went_ready : {X Y : List Style → Frame} {u v : List ℕ} {a b : State} → 8 * most_letters ≤ length u → Went tape u v depth X Y a b
+      → Ready tape v b
+  went_ready space h = let same = wrote_length h.stored in record { on = h.to; few = h.few; space = omega arith }
 
   pub went_stopped : {X Y : List Style → Frame} {u v : List ℕ} {a b : State} {number place : ℕ} → Went tape u v depth X Y a b
       → Stopped tape depth Y b number place → Stopped tape depth X a number place

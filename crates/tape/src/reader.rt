@@ -1,5 +1,5 @@
-// The reader's parts: a list is read by reading segments, and a segment by reading its list. Tape, workspace and
-// state stay arguments: one is read, one written, and one given back.
+// The reader's parts: a list is read by reading its leaves and its segments with lists, and such a segment by reading its
+// list. Tape, workspace and state stay arguments: one is read, one written, and one given back.
 ghost use Rattle.std.specs.Prelude.{◌≡◌, true, false, ◌+◌, ◌≤◌, ◌<◌};
 ghost use Rattle.tape.specs.Command.{deepest, is_opener};
 ghost use Rattle.tape.specs.Reading.{byte_of, Ready, Sound, Leaf, LeafRead, LettersRead, LeavesRead, SegmentRead, ListRead};

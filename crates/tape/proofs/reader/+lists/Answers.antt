@@ -9,7 +9,7 @@ use Rattle.tape.proofs.Commands.{open_command}
 use Rattle.tape.proofs.Faults.{passed_check, failed_check, clean, not_outer, not_deepest, opens_in_list}
 use Rattle.tape.proofs.LeafCommands.{leaf, went_leaf}
 use Rattle.tape.proofs.MeaningSteps.{end_from, end_inside}
-use Rattle.tape.proofs.TapeParts.{wrote_length, went_then, went_stopped, stopped_fault, went_command, then_reads, inner_reads, onward}
+use Rattle.tape.proofs.TapeParts.{wrote_length, went_then, went_ready, went_stopped, stopped_fault, went_command, then_reads, inner_reads, onward}
 use Rattle.std.proofs.lemmas.Result.{err_from_is_err_and}
 use Rattle.tape.proofs.reader.+lists.Goals as goal
 use Rattle.tape.proofs.reader.+lists.Goals.{read_list-In_ok-check, read_list-Else-is_opener, read_list-After-read_leaf-leaf, read_list-After-read_letters-letters, read_segment-Start, read_segment-After-onto-opened, read_segment-Else-c-eq9, read_segment-Then-c-eq9}
@@ -81,10 +81,7 @@ went t c =
 
 pub read_list-read_letters-letters-requires : goal.read_list-read_letters-letters-requires
 read_list-read_letters-letters-requires t c =
-    let w = went t (goal.at.read_list-read_letters-letters-requires t c).After-read_leaf-leaf in
-    let same = wrote_length w.stored in
-    let space = c.requires.space in
-    record { on = w.to; few = w.few; space = omega arith }
+    went_ready _ _ c.requires.space (went t (goal.at.read_list-read_letters-letters-requires t c).After-read_leaf-leaf)
 
 -- and the letters behind it
 lettered : (t : ℕ) (c : read_list-After-read_letters-letters t) → let i = c.args.inside in
@@ -95,17 +92,12 @@ lettered t c =
 
 pub read_list-read_leaves-silent-requires : goal.read_list-read_leaves-silent-requires
 read_list-read_leaves-silent-requires t c =
-    let w = lettered t (goal.at.read_list-read_leaves-silent-requires t c).After-read_letters-letters in
-    let same = wrote_length w.stored in
-    let space = c.requires.space in
-    record { on = w.to; few = w.few; space = omega arith }
+    went_ready _ _ c.requires.space (lettered t (goal.at.read_list-read_leaves-silent-requires t c).After-read_letters-letters)
 
 pub read_list-read_leaves-s-requires : goal.read_list-read_leaves-s-requires
 read_list-read_leaves-s-requires t c =
-    let w = went_then _ _ (lettered t (goal.at.read_list-read_leaves-s-requires t c).After-read_letters-letters) c.read_leaves-silent.ensures.went in
-    let same = wrote_length w.stored in
-    let space = c.requires.space in
-    record { on = w.to; few = w.few; space = omega arith }
+    let w = lettered t (goal.at.read_list-read_leaves-s-requires t c).After-read_letters-letters in
+    went_ready _ _ c.requires.space (went_then _ _ w c.read_leaves-silent.ensures.went)
 
 pub read_list-loop-s-smaller : goal.read_list-loop-s-smaller
 read_list-loop-s-smaller t c =
@@ -191,7 +183,7 @@ read_segment-read_list-requires t c =
     let w = passed t e.After-onto-opened names (named t e.Then-c-eq9) refl in
     let far = on t e.After-onto-opened in
     let h = c.requires.0.inside in
-    (omega (arith, c.decreases), record { on = w.to; few = w.few; space = c.requires.0.space })
+    (omega (arith, c.decreases), went_ready _ _ c.requires.0.space w)
 
 pub read_segment-read_list-requires-then-c-eq9 : goal.read_segment-read_list-requires-then-c-eq9
 read_segment-read_list-requires-then-c-eq9 t c =
@@ -200,9 +192,7 @@ read_segment-read_list-requires-then-c-eq9 t c =
     let far = on t e.After-onto-opened in
     let on = n.on in
     let h = c.requires.0.inside in
-    let space = c.requires.0.space in
-    let same = wrote_length n.stored in
-    (omega (arith, c.decreases), record { on = n.to; few = n.few; space = omega arith })
+    (omega (arith, c.decreases), went_ready _ _ c.requires.0.space n)
 
 pub read_segment-returns-then-c-eq9 : goal.read_segment-returns-then-c-eq9
 read_segment-returns-then-c-eq9 t c =
@@ -246,7 +236,7 @@ read_segment-read_list-requires-2 t c =
     let far = on t e.After-onto-opened in
     let h = c.requires.0.inside in (
       omega (arith, c.decreases),
-      record { on = w.to; few = w.few; space = c.requires.0.space },
+      went_ready _ _ c.requires.0.space w,
     )
 
 pub read_segment-returns : goal.read_segment-returns
